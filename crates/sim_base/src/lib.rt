@@ -1,0 +1,18 @@
+//! Times, numbers and names that every other crate speaks of.
+#![tactic(auto)]
+
+mod body;
+mod memory;
+mod mode;
+mod name;
+mod numbers;
+mod phase;
+mod time;
+
+pub use body::Body;
+pub use memory::OutOfMemory;
+pub use mode::Mode;
+pub use name::{LONGEST_NAME, Name};
+pub use numbers::{ActorNo, LinkNo, PartNo, PortNo};
+pub use phase::Phase;
+pub use time::{LATEST_EDGE, LONGEST_PERIOD, Time, first_edge_after, first_edge_from};
