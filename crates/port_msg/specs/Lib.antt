@@ -1,0 +1,2 @@
+pub mod PortView
+pub mod RecView
