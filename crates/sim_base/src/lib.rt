@@ -7,6 +7,7 @@ mod mode;
 mod name;
 mod numbers;
 mod phase;
+mod steps;
 mod time;
 
 pub use body::Body;
@@ -15,4 +16,5 @@ pub use mode::Mode;
 pub use name::{LONGEST_NAME, Name};
 pub use numbers::{ActorNo, LinkNo, PartNo, PortNo};
 pub use phase::Phase;
+pub use steps::Steps;
 pub use time::{LATEST_EDGE, LONGEST_PERIOD, Time, first_edge_after, first_edge_from};
