@@ -1,0 +1,17 @@
+pub mod Machine
+pub mod Frame
+pub mod FrameLaws
+pub mod Face
+pub mod Quiet
+pub mod Laws
+pub mod Wires
+pub mod WorldPlaces
+pub mod Pass
+pub mod Outcomes
+pub mod SerialLoop
+pub mod NextTime
+pub mod Course
+pub mod Verdict
+pub mod PlanView
+pub mod OnePort
+pub mod OnePortLaws
