@@ -7,6 +7,7 @@ mod mode;
 mod name;
 mod numbers;
 mod phase;
+mod port_list;
 mod steps;
 mod time;
 
@@ -16,5 +17,6 @@ pub use mode::Mode;
 pub use name::{LONGEST_NAME, Name};
 pub use numbers::{ActorNo, LinkNo, PartNo, PortNo};
 pub use phase::Phase;
+pub use port_list::PortList;
 pub use steps::Steps;
 pub use time::{LATEST_EDGE, LONGEST_PERIOD, Time, first_edge_after, first_edge_from};

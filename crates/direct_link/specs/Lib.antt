@@ -1,0 +1,4 @@
+pub mod Direct
+pub mod Serving
+pub mod DirectLaws
+pub mod PortIndex
