@@ -104,12 +104,12 @@ module _ {S : Type 0} where
   made_not : (m : Machine S) (w : Wires) (stepped : ℕ → Bool) (t i : ℕ) (ports : List PortView) (o : Option S) (s : S) → o ≡ Some s → stepped i ≡ false → outcome_by m w stepped t ports i o ≡ None
   made_not m w stepped t i ports o s e f = rw (e, f) refl
 
-  -- the next times after the pass of those that are due
-  pub next_is : (c : Course S) (valid : S → Type 0) (end t i : ℕ) → IsCourse c valid end → t < end → i < length (c.before 0).states → next_after c.machine t (outcome c.machine c.wires (due_at_time c t) t (c.before t) i) (ready c i t) ≡ ticked c i (t + 1)
-  next_is c valid end t i is l b = by_due (due_at_time c t i) refl
+  -- the next time that the step of one who was to step leaves
+  pub next_chosen : (c : Course S) (valid : S → Type 0) (end t i : ℕ) (stepped : ℕ → Bool) → IsCourse c valid end → t < end → i < length (c.before 0).states → stepped i ≡ true → next_after c.machine t (outcome c.machine c.wires stepped t (c.before t) i) (ready c i t) ≡ ticked c i (t + 1)
+  next_chosen c valid end t i stepped is l b e = let r = at_of c valid end i t is b (omega arith) in by_edge r.0 r.1 (has_edge c.machine t r.0) refl
     where
-      by_edge : (s : S) → At c valid i t s → due_at_time c t i ≡ true → (y : Bool) → has_edge c.machine t s ≡ y → next_after c.machine t (outcome c.machine c.wires (due_at_time c t) t (c.before t) i) (ready c i t) ≡ ticked c i (t + 1)
-      by_edge s at e true f =
+      by_edge : (s : S) → At c valid i t s → (y : Bool) → has_edge c.machine t s ≡ y → next_after c.machine t (outcome c.machine c.wires stepped t (c.before t) i) (ready c i t) ≡ ticked c i (t + 1)
+      by_edge s at true f =
           let m = c.machine in
           let st = step_of m c.wires t (c.before t).ports i s in
           let now : slice_get (after c t).states i ≡ Some st.state = state_then m c.wires t (c.before t) i s at.is ∙ ap (λ x. Some x) (period_step m c.wires t (c.before t).ports i s f) in
@@ -119,19 +119,22 @@ module _ {S : Type 0} where
           let pos : 0 < period c i = subst (λ x. 0 < x) at.same at.all in
           let z : t % period c i ≡ 0 = ap (λ x. t % x) (sym at.same) ∙ is_same (t % m.period s) 0 f in
           let timers : timer c i t ≡ times (period c i) (m.due st.state (t / period c i)) = ap (λ o. times (period c i) (due_at m (t / period c i) o)) now in
-          ap (λ o. next_after m t o (ready c i t)) (made_some m c.wires (due_at_time c t) t i (c.before t).ports (slice_get (c.before t).states i) s at.is e f)
+          ap (λ o. next_after m t o (ready c i t)) (made_some m c.wires stepped t i (c.before t).ports (slice_get (c.before t).states i) s at.is e f)
           ∙ ap (λ x. woken st.flag (t + x) (times x (m.due st.state (t / x)))) per
           ∙ ap (λ o. woken st.flag (t + period c i) o) (sym timers)
           ∙ ap (λ x. woken x (t + period c i) (timer c i t)) (sym (flag_is c i t s at.is f))
           ∙ sym (ticked_edge c i t pos z)
-      by_edge s at e false f =
+      by_edge s at false f =
           let pos : 0 < period c i = subst (λ x. 0 < x) at.same at.all in
-          ap (λ o. next_after c.machine t o (ready c i t)) (made_out c.machine c.wires (due_at_time c t) t i (c.before t).ports (slice_get (c.before t).states i) s at.is f)
+          ap (λ o. next_after c.machine t o (ready c i t)) (made_out c.machine c.wires stepped t i (c.before t).ports (slice_get (c.before t).states i) s at.is f)
           ∙ sym (ticked_between c i t pos (λ z. is_other (t % c.machine.period s) 0 f (ap (λ x. t % x) at.same ∙ z)))
+
+  -- the next times after the pass of those that are due
+  pub next_is : (c : Course S) (valid : S → Type 0) (end t i : ℕ) → IsCourse c valid end → t < end → i < length (c.before 0).states → next_after c.machine t (outcome c.machine c.wires (due_at_time c t) t (c.before t) i) (ready c i t) ≡ ticked c i (t + 1)
+  next_is c valid end t i is l b = by_due (due_at_time c t i) refl
+    where
       by_due : (x : Bool) → due_at_time c t i ≡ x → next_after c.machine t (outcome c.machine c.wires (due_at_time c t) t (c.before t) i) (ready c i t) ≡ ticked c i (t + 1)
-      by_due true e =
-          let r = at_of c valid end i t is b (omega arith) in
-          by_edge r.0 r.1 e (has_edge c.machine t r.0) refl
+      by_due true e = next_chosen c valid end t i (due_at_time c t) is l b e
       by_due false e =
           let r = at_of c valid end i t is b (omega arith) in
           let pos : 0 < period c i = subst (λ x. 0 < x) r.1.same r.1.all in
