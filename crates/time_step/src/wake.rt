@@ -21,6 +21,14 @@ pub struct Face {
     room: bool,
 }
 
+impl Face {
+    /// The face of a port with two empty lists.
+    pub const EMPTY: Face = Face {
+        head: false,
+        room: true,
+    };
+}
+
 /// The face of a port towards its part or its link.
 fn seen(port: &Port, part: bool) -> Face
     ensures { result ≡ face_of part port.now }

@@ -1,0 +1,113 @@
+-- The gear of a plan is fit for its run.
+use Rattle.std.proofs.Common.{◌≡◌, ℕ, ◌+◌, ◌*◌, ◌<◌, ◌≤◌, List, [], ◌∷◌, length, take, drop, map, get_or, zero, suc, sym, ◌∙◌, ap, subst, arith, refl, length-take, length-drop}
+use Rattle.std.specs.Prelude.{Option, Some, None, slice_get, slice_index_or, true, false}
+use Rattle.port_msg.specs.PortView.{PortView, port_view}
+use Rattle.tick_law.specs.Machine.{Machine}
+use Rattle.tick_law.specs.Frame.{IsPort}
+use Rattle.tick_law.specs.Laws.{Laws}
+use Rattle.tick_law.specs.Wires.{Wires, Wired, own_of, owner_of}
+use Rattle.tick_law.specs.Pass.{Side}
+use Rattle.tick_law.specs.SerialLoop.{System, WorldState, parts_of, links_of}
+use Rattle.tick_law.specs.Course.{period_at, period, part_course, link_course}
+use Rattle.tick_law.specs.PlanView.{PlanView, IsPlan, part_wires, link_wires, start_of, system_of}
+use Rattle.tick_law.specs.declared.port_plan.PortPlan.{PortPlan}
+use Rattle.model_laws.specs.Sleeping.{IsSound}
+use Rattle.model_laws.specs.Whole.{HasRoom, IsWellFormed}
+use Rattle.model_laws.specs.Gaps.{IsSetUp}
+use Rattle.model_laws.specs.Outcome.{own_to}
+use Rattle.time_step.specs.Gear.{Fitted}
+use Rattle.run_gear.proofs.Pigeons.{own_to-le, own-le}
+
+length-map : {A B : Type 0} (f : A → B) (xs : List A) → length (map f xs) ≡ length xs
+length-map f [] = refl
+length-map f (x ∷ xs) = ap suc (length-map f xs)
+
+map_back : {A B : Type 0} (f : A → B) (xs : List A) (q : ℕ) (y : B) → slice_get (map f xs) q ≡ Some y → (x : A) × (slice_get xs q ≡ Some x) × (y ≡ f x)
+map_back f [] q y e = absurd (cc)
+map_back f (x ∷ xs) zero y e = (x, refl, cc)
+map_back f (x ∷ xs) (suc q) y e = map_back f xs q y e
+
+-- every port of the start is empty
+start_port : (plans : List PortPlan) → ((q : ℕ) (p : PortPlan) → slice_get plans q ≡ Some p → (1 ≤ p.cap) × (p.cap ≤ 64)) → (q : ℕ) (p : PortView) → slice_get (map (λ (x : PortPlan). port_view [] [] x.cap) plans) q ≡ Some p → IsPort p
+start_port plans caps q p e =
+    let b = map_back (λ (x : PortPlan). port_view [] [] x.cap) plans q p e in
+    subst IsPort (sym b.2) (omega arith, omega arith, (caps q b.0 b.1).1)
+
+period_here : {S : Type 0} (m : Machine S) (valid : S → Type 0) (xs : List S) (i : ℕ) → ((j : ℕ) (s : S) → slice_get xs j ≡ Some s → valid s) → ((s : S) → valid s → (0 < m.period s) × (m.period s ≤ 1000000000)) → i < length xs → (get_or (map m.period xs) i 0 ≡ period_at m (slice_get xs i)) × (0 < get_or (map m.period xs) i 0) × (get_or (map m.period xs) i 0 ≤ 1000000000)
+period_here m valid [] i v within b = absurd (omega arith)
+period_here m valid (x ∷ xs) zero v within b = let w = within x (v 0 x refl) in (refl, w.0, w.1)
+period_here m valid (x ∷ xs) (suc i) v within b = period_here m valid xs i (λ j s e. v (suc j) s e) within (omega arith)
+
+module _ {P N : Type 0} where
+  sound_parts : (mp : Machine P) (mn : Machine N) (vp : P → Type 0) (plan : PlanView P N) → IsPlan mp mn plan → ((i : ℕ) (s : P) → slice_get plan.parts i ≡ Some s → vp s) → IsSound mp vp (part_wires plan) (parts_of (start_of plan))
+  sound_parts mp mn vp plan is v = record { states = λ i s e. (v i s e, is.part_own i s e); ports = λ q p e. start_port plan.ports is.capacities q p e }
+
+  sound_links : (mp : Machine P) (mn : Machine N) (vn : N → Type 0) (plan : PlanView P N) → IsPlan mp mn plan → ((i : ℕ) (s : N) → slice_get plan.links i ≡ Some s → vn s) → IsSound mn vn (link_wires plan) (links_of (start_of plan))
+  sound_links mp mn vn plan is v = record { states = λ i s e. (v i s e, is.link_own i s e); ports = λ q p e. start_port plan.ports is.capacities q p e }
+
+  port_count : (plan : PlanView P N) → length (start_of plan).ports ≡ length plan.ports
+  port_count plan = length-map (λ (x : PortPlan). port_view [] [] x.cap) plan.ports
+
+  pub set_up : (mp : Machine P) (mn : Machine N) (vp : P → Type 0) (vn : N → Type 0) (plan : PlanView P N) → IsPlan mp mn plan → Laws mp vp true → Laws mn vn false → ((i : ℕ) (s : P) → slice_get plan.parts i ≡ Some s → vp s) → ((i : ℕ) (s : N) → slice_get plan.links i ≡ Some s → vn s) → IsSetUp (system_of mp mn plan) vp vn
+  set_up mp mn vp vn plan is lp ln kp kn = record {
+    part_laws = lp;
+    link_laws = ln;
+    part_wired = subst (Wired (part_wires plan)) (sym (port_count plan)) is.part_wired;
+    link_wired = subst (Wired (link_wires plan)) (sym (port_count plan)) is.link_wired;
+    good = record { part_count = refl; link_count = refl; port_count = refl; parts = sound_parts mp mn vp plan is kp; links = sound_links mp mn vn plan is kn };
+    part_owned = λ q b. is.part_owned q (omega (arith, b, port_count plan));
+    link_owned = λ q b. is.link_owned q (omega (arith, b, port_count plan));
+  }
+
+  parts_fit : (mp : Machine P) (mn : Machine N) (plan : PlanView P N) → IsPlan mp mn plan → HasRoom P mp (part_wires plan) (parts_of (start_of plan)) 1024 131072
+  parts_fit mp mn plan is = record {
+    same = length-take (length plan.parts) plan.own ∙ (let o = is.own in let z : _ ≡ length plan.parts = omega (arith, o) in z);
+    few = (let f = is.few_parts in omega (arith, f));
+    wired = subst (Wired (part_wires plan)) (sym (port_count plan)) is.part_wired;
+    owned = λ q b. is.part_owned q (omega (arith, b, port_count plan));
+    count = λ i s e. is.part_own i s e;
+    held = λ i. (let h = own-le (part_wires plan) (length plan.ports) i is.part_wired in let f = is.few_ports in omega (arith, h, f));
+    room = λ i. (let h = own-le (part_wires plan) (length plan.ports) i is.part_wired in let f = is.few_ports in omega (arith, h, f));
+  }
+
+  links_fit : (mp : Machine P) (mn : Machine N) (plan : PlanView P N) → IsPlan mp mn plan → HasRoom N mn (link_wires plan) (links_of (start_of plan)) 1024 131072
+  links_fit mp mn plan is = record {
+    same = length-drop (length plan.parts) plan.own ∙ (let o = is.own in let z : _ ≡ length plan.links = omega (arith, o) in z);
+    few = (let f = is.few_links in omega (arith, f));
+    wired = subst (Wired (link_wires plan)) (sym (port_count plan)) is.link_wired;
+    owned = λ q b. is.link_owned q (omega (arith, b, port_count plan));
+    count = λ i s e. is.link_own i s e;
+    held = λ i. (let h = own-le (link_wires plan) (length plan.ports) i is.link_wired in let f = is.few_ports in omega (arith, h, f));
+    room = λ i. (let h = own-le (link_wires plan) (length plan.ports) i is.link_wired in let f = is.few_ports in omega (arith, h, f));
+  }
+
+  pub fitted : (mp : Machine P) (mn : Machine N) (vp : P → Type 0) (vn : N → Type 0) (plan : PlanView P N) (pp lp : List ℕ) → IsPlan mp mn plan → Laws mp vp true → Laws mn vn false → ((i : ℕ) (s : P) → slice_get plan.parts i ≡ Some s → vp s) → ((i : ℕ) (s : N) → slice_get plan.links i ≡ Some s → vn s) → pp ≡ map mp.period plan.parts → lp ≡ map mn.period plan.links → Fitted (system_of mp mn plan) vp vn 1024 131072 pp lp
+  fitted mp mn vp vn plan pp lp is laws_p laws_n kp kn pe le = record {
+    set_up = set_up mp mn vp vn plan is laws_p laws_n kp kn;
+    parts_fit = parts_fit mp mn plan is;
+    links_fit = links_fit mp mn plan is;
+    few = (let f = is.few_parts in let g = is.few_links in omega (arith, f, g));
+    few_ports = (let f = is.few_ports in omega (arith, f, port_count plan));
+    part_owner = length-map (λ (p : PortPlan). p.part.0) plan.ports ∙ sym (port_count plan);
+    link_owner = length-map (λ (p : PortPlan). p.link.0) plan.ports ∙ sym (port_count plan);
+    part_count = ap length pe ∙ length-map mp.period plan.parts;
+    link_count = ap length le ∙ length-map mn.period plan.links;
+    part_period = λ i b. subst (λ l. (get_or l i 0 ≡ period (part_course (system_of mp mn plan)) i) × (0 < get_or l i 0) × (get_or l i 0 ≤ 1000000000)) (sym pe) (period_here mp vp plan.parts i kp laws_p.period b);
+    link_period = λ i b. subst (λ l. (get_or l i 0 ≡ period (link_course (system_of mp mn plan)) i) × (0 < get_or l i 0) × (get_or l i 0 ≤ 1000000000)) (sym le) (link_period_here i b);
+  }
+    where
+      link_period_here : (i : ℕ) → i < length plan.links → (get_or (map mn.period plan.links) i 0 ≡ period (link_course (system_of mp mn plan)) i) × (0 < get_or (map mn.period plan.links) i 0) × (get_or (map mn.period plan.links) i 0 ≤ 1000000000)
+      link_period_here i b = period_here mn vn plan.links i kn laws_n.period b
+
+  pub room_enough : (mp : Machine P) (mn : Machine N) (plan : PlanView P N) → IsPlan mp mn plan → 64 * (own_to (part_wires plan) (length plan.parts) + own_to (link_wires plan) (length plan.links)) ≤ 131072
+  room_enough mp mn plan is =
+      let a = own_to-le (part_wires plan) (length plan.ports) (length plan.parts) is.part_wired in
+      let b = own_to-le (link_wires plan) (length plan.ports) (length plan.links) is.link_wired in
+      let f = is.few_ports in
+      omega (arith, a, b, f)
+
+wires_is : (a b : List (List ℕ)) (c d : List ℕ) → a ≡ b → c ≡ d → let x : Wires = record { own = a; owner = c } in let y : Wires = record { own = b; owner = d } in x ≡ y
+wires_is a b c d e f = cc
+
+pub wires_are : (w : Wires) (own : List (List ℕ)) (owner : List ℕ) → w.own ≡ own → w.owner ≡ owner → w ≡ record { own = own; owner = owner }
+wires_are w own owner e f = wires_is w.own own w.owner owner e f
