@@ -73,23 +73,26 @@ module _ {S : Type 0} where
       let s = r.0 in
       let new = state_if (has_edge c.machine t s) (step_of c.machine c.wires t (c.before t).ports i s).state s in
       let here : slice_get (c.before (suc t)).states i ≡ Some new = ap (λ xs. slice_get xs i) (is.states t) ∙ state_then c.machine c.wires t (c.before t) i s r.1.is in
-      let known = (is.sound (suc t) l).states i new here in
-      (new, record {
-        is = here;
-        same = period_if c.machine (step_of c.machine c.wires t (c.before t).ports i s).state s (has_edge c.machine t s) (period_then c valid end i t s is (omega arith) r.1) ∙ r.1.same;
-        good = known.0;
-        own = known.1;
-        all = is.positive new known.0;
-      })
+      let known = (is.sound (suc t) l).states i new here in (
+        new,
+        record {
+          is = here;
+          same = period_if c.machine (step_of c.machine c.wires t (c.before t).ports i s).state s (has_edge c.machine t s) (period_then c valid end i t s is (omega arith) r.1) ∙ r.1.same;
+          good = known.0;
+          own = known.1;
+          all = is.positive new known.0;
+        },
+      )
 
   -- one time at which an actor does nothing and no face of it is changed
   pub stays_once : (c : Course S) (valid : S → Type 0) (end i t : ℕ) (s : S) → IsCourse c valid end → t < end → slice_get (c.before t).states i ≡ Some s → (has_edge c.machine t s ≡ true → Still c.machine c.wires t (c.before t).ports i s) → faced c i t ≡ false →
       (slice_get (c.before (suc t)).states i ≡ Some s) × SameFaces c.side (gather (c.before t).ports (own_of c.wires i)) (gather (c.before (suc t)).ports (own_of c.wires i))
   stays_once c valid end i t s is l at still face =
       let own = own_of c.wires i in
-      let gap = gap_faces c valid end t own is l (λ q has. (is.wired t).within i q has) face in
-      (ap (λ xs. slice_get xs i) (is.states t) ∙ state_rests c.machine c.wires t (c.before t) i s at still,
-       subst (λ l. SameFaces c.side l (gather (c.before (suc t)).ports own)) (ports_rest c.machine c.wires t (c.before t) i s (is.wired t) at still) gap)
+      let gap = gap_faces c valid end t own is l (λ q has. (is.wired t).within i q has) face in (
+        ap (λ xs. slice_get xs i) (is.states t) ∙ state_rests c.machine c.wires t (c.before t) i s at still,
+        subst (λ l. SameFaces c.side l (gather (c.before (suc t)).ports own)) (ports_rest c.machine c.wires t (c.before t) i s (is.wired t) at still) gap,
+      )
 
   -- from an edge at which it does nothing up to the next one
   pub stays : (c : Course S) (valid : S → Type 0) (end i n k : ℕ) (s : S) → IsCourse c valid end → let p = c.machine.period s in 0 < p → k < p → n * p + k < end → slice_get (c.before (n * p)).states i ≡ Some s → Still c.machine c.wires (n * p) (c.before (n * p)).ports i s → any_from (faced c i) (n * p) (suc k) ≡ false →

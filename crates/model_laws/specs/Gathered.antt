@@ -43,6 +43,7 @@ has_or_not (q ∷ qs) k = at_first (q == k) refl (has_or_not qs k)
     in_rest : (q ≡ k → ⊥) → Has qs k ⊎ (Has qs k → ⊥) → Has (q ∷ qs) k ⊎ (Has (q ∷ qs) k → ⊥)
     in_rest n (inl (j, b, e)) = inl (suc j, omega arith, e)
     in_rest n (inr m) = inr (λ h. m (has_rest q qs k h n))
+
     at_first : (b : Bool) → (q == k) ≡ b → Has qs k ⊎ (Has qs k → ⊥) → Has (q ∷ qs) k ⊎ (Has (q ∷ qs) k → ⊥)
     at_first true e r = inl (0, omega arith, is_same q k e)
     at_first false e r = in_rest (is_other q k e) r

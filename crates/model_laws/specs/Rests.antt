@@ -43,18 +43,19 @@ module _ {S : Type 0} where
   ports_rest m w t h i s wired e still =
       gather_same (pass m w everyone t h).ports h.ports (own_of w i)
       (λ q has.
-         let owner : owner_of w q ≡ i = wired.listed i q has in
-         let own : Has (own_of w (owner_of w q)) q = subst (λ j. Has (own_of w j) q) (sym owner) has in
-         let o = slice_get h.states (owner_of w q) in
-         let is : o ≡ Some s = ap (λ j. slice_get h.states j) owner ∙ e in
-         get-map_index_zero (port_after m w everyone t h) h.ports q (port_view [] [] 0) (port_view [] [] 0) (wired.within i q has)
-         ∙ sym (sleeping_port_of m w (first zero) t h.ports q (port_at h.ports q) o own refl
-             (λ x at no edge. let same : x ≡ s = (let f : Some x ≡ Some s = sym at ∙ is in cc) in subst (λ j. Still m w t h.ports j x) (sym owner) (subst (λ y. Still m w t h.ports i y) (sym same) (still (subst (λ y. has_edge m t y ≡ true) same edge)))))
-         ∙ port_kept m w (first zero) t h.ports q (port_at h.ports q) o refl)
+      let owner : owner_of w q ≡ i = wired.listed i q has in
+      let own : Has (own_of w (owner_of w q)) q = subst (λ j. Has (own_of w j) q) (sym owner) has in
+      let o = slice_get h.states (owner_of w q) in
+      let is : o ≡ Some s = ap (λ j. slice_get h.states j) owner ∙ e in
+      get-map_index_zero (port_after m w everyone t h) h.ports q (port_view [] [] 0) (port_view [] [] 0) (wired.within i q has)
+      ∙ sym (sleeping_port_of m w (first zero) t h.ports q (port_at h.ports q) o own refl
+      (λ x at no edge. let same : x ≡ s = (let f : Some x ≡ Some s = sym at ∙ is in cc) in subst (λ j. Still m w t h.ports j x) (sym owner) (subst (λ y. Still m w t h.ports i y) (sym same) (still (subst (λ y. has_edge m t y ≡ true) same edge)))))
+      ∙ port_kept m w (first zero) t h.ports q (port_at h.ports q) o refl)
 
   -- no face was changed in a gap
   pub gap_faces : (c : Course S) (valid : S → Type 0) (end t : ℕ) (qs : List ℕ) → IsCourse c valid end → t < end → ((q : ℕ) → Has qs q → q < length (c.before t).ports) → any_of (faced_at c t) qs ≡ false → SameFaces c.side (gather (after c t).ports qs) (gather (c.before (suc t)).ports qs)
   gap_faces c valid end t [] is l within e = tt
-  gap_faces c valid end t (q ∷ qs) is l within e =
-      (face_kept c.side (port_at (after c t).ports q) (port_at (c.before (suc t)).ports q) (is.gaps t q l (within q (0, omega arith, refl))) (or_left _ _ e),
-       gap_faces c valid end t qs is l (λ k (j, b, f). within k (suc j, omega arith, f)) (or_right _ _ e))
+  gap_faces c valid end t (q ∷ qs) is l within e = (
+    face_kept c.side (port_at (after c t).ports q) (port_at (c.before (suc t)).ports q) (is.gaps t q l (within q (0, omega arith, refl))) (or_left _ _ e),
+    gap_faces c valid end t qs is l (λ k (j, b, f). within k (suc j, omega arith, f)) (or_right _ _ e),
+  )

@@ -122,11 +122,11 @@ module _ {S : Type 0} where
   pub pass_sound : (m : Machine S) (valid : S → Type 0) (w : Wires) (stepped : ℕ → Bool) (t : ℕ) (h : Side S) → Lawful m valid → Wired w (length h.ports) → t ≤ 501000000000 → IsSound m valid w h → IsSound m valid w (pass m w stepped t h)
   pass_sound m valid w stepped t h law wired small sound = record {
     states = λ i s e.
-      let b = map_index_back (state_after m w stepped t h.ports) 0 h.states i s e in
-      let z : 0 + i ≡ i = omega arith in
-      subst (λ (x : S). valid x × (length (own_of w i) ≡ m.own x)) (sym (b.2 ∙ ap (λ j. state_after m w stepped t h.ports j b.0) z)) (sound_state m valid w stepped t h law wired small sound i b.0 b.1 (stepped i && has_edge m t b.0));
+        let b = map_index_back (state_after m w stepped t h.ports) 0 h.states i s e in
+        let z : 0 + i ≡ i = omega arith in
+        subst (λ (x : S). valid x × (length (own_of w i) ≡ m.own x)) (sym (b.2 ∙ ap (λ j. state_after m w stepped t h.ports j b.0) z)) (sound_state m valid w stepped t h law wired small sound i b.0 b.1 (stepped i && has_edge m t b.0));
     ports = λ q p e.
-      let b = map_index_back (port_after m w stepped t h) 0 h.ports q p e in
-      let z : 0 + q ≡ q = omega arith in
-      subst IsPort (sym (b.2 ∙ ap (λ j. port_after m w stepped t h j b.0) z)) (sound_port m valid w stepped t h law wired small sound q b.0 b.1 (slice_get h.states (owner_of w q)) refl);
+        let b = map_index_back (port_after m w stepped t h) 0 h.ports q p e in
+        let z : 0 + q ≡ q = omega arith in
+        subst IsPort (sym (b.2 ∙ ap (λ j. port_after m w stepped t h j b.0) z)) (sound_port m valid w stepped t h law wired small sound q b.0 b.1 (slice_get h.states (owner_of w q)) refl);
   }

@@ -165,13 +165,14 @@ module _ {S : Type 0} where
           let steady : m.due s (suc n.0) ≡ m.due s n.0 = is.steady s n.0 (suc n.0) r.1.good (omega arith) (λ t f. after_due (m.due s n.0) n.0 t (λ k g. is.later s n.0 k r.1.good g) none f) in
           let timers : timer c i d ≡ timer c i q = ap (λ o. times (period c i) o) (due_d ∙ steady ∙ sym due_q) in
           let ready_is : ready c i d ≡ woken (f || any_from (faced c i) q (d - q)) d (timer c i q) =
-              ap (λ x. next_at x (flag c i) (faced c i) (timer c i) d (edge_from x d)) (sym e)
-              ∙ ap (next_at p (flag c i) (faced c i) (timer c i) d) (edge_at d p z)
-              ∙ next_some p (flag c i) (faced c i) (timer c i) d d q (d - q) b0 back refl in
+          ap (λ x. next_at x (flag c i) (faced c i) (timer c i) d (edge_from x d)) (sym e)
+          ∙ ap (next_at p (flag c i) (faced c i) (timer c i) d) (edge_at d p z)
+          ∙ next_some p (flag c i) (faced c i) (timer c i) d d q (d - q) b0 back refl in
           let ready_timer : ready c i d ≡ timer c i q = ready_is ∙ woken_some (f || any_from (faced c i) q (d - q)) d (timer c i q) (ap (λ o. due_is o d) (sym ready_is) ∙ rests) in
           ticked_edge c i d (subst (λ x. 0 < x) e pos) (ap (λ x. d % x) (sym e) ∙ z)
           ∙ woken_false (flag c i d) (d + period c i) (timer c i d) flag_d
           ∙ timers ∙ sym ready_timer
+
       by_edge : (x : Bool) → (d % period c i == 0) ≡ x → ticked c i (d + 1) ≡ ready c i d
       by_edge true e = at_edge (period c i) refl pos (is_same (d % period c i) 0 e) rests
       by_edge false e = ticked_between c i d pos (λ f. is_other (d % period c i) 0 e f)

@@ -122,21 +122,21 @@ module _ {P N : Type 0} where
       record {
         world = next_same ∙ mid_same;
         parts = λ i b.
-          let pos = period_at_start c vp end i ci b in
-          part_woken r t i pos ∙ woken_no (links_face r t i) (edge_from (period c i) (t + 1)) (ticked c i (t + 1)) (gap_rests c t i next_ports) ∙ ticked_sleeps c vp end i t ci b (omega arith) pos (rest.parts i b);
+            let pos = period_at_start c vp end i ci b in
+            part_woken r t i pos ∙ woken_no (links_face r t i) (edge_from (period c i) (t + 1)) (ticked c i (t + 1)) (gap_rests c t i next_ports) ∙ ticked_sleeps c vp end i t ci b (omega arith) pos (rest.parts i b);
         links = λ i b.
-          let pos = period_at_start k vn end i ki b in
-          ticked_sleeps k vn end i t ki b (omega arith) pos (ap (λ o. due_is o t) (link_ready i b) ∙ rest.links i b) ∙ link_ready i b;
+            let pos = period_at_start k vn end i ki b in
+            ticked_sleeps k vn end i t ki b (omega arith) pos (ap (λ o. due_is o t) (link_ready i b) ∙ rest.links i b) ∙ link_ready i b;
         records =
-          (let a : records r.part r.part_wires everyone t (parts_of (world_at r t)) 0 ≡ [] = sym (due_records c vp end t 0 (length (world_at r t).parts) ci (omega arith)) ∙ nobody_records r.part r.part_wires (due_at_time c t) t (parts_of (world_at r t)) 0 (length (world_at r t).parts) part_rest in
-           let b : records r.link r.link_wires everyone t (links_of (mid r t)) (length r.start.parts) ≡ [] = sym (due_records k vn end t (length r.start.parts) (length (mid r t).links) ki (omega arith)) ∙ nobody_records r.link r.link_wires (due_at_time k t) t (links_of (mid r t)) (length r.start.parts) (length (mid r t).links) link_rest in
-           ap (λ l. l ++ records r.link r.link_wires everyone t (links_of (mid r t)) (length r.start.parts)) a ∙ b);
+            (let a : records r.part r.part_wires everyone t (parts_of (world_at r t)) 0 ≡ [] = sym (due_records c vp end t 0 (length (world_at r t).parts) ci (omega arith)) ∙ nobody_records r.part r.part_wires (due_at_time c t) t (parts_of (world_at r t)) 0 (length (world_at r t).parts) part_rest in
+            let b : records r.link r.link_wires everyone t (links_of (mid r t)) (length r.start.parts) ≡ [] = sym (due_records k vn end t (length r.start.parts) (length (mid r t).links) ki (omega arith)) ∙ nobody_records r.link r.link_wires (due_at_time k t) t (links_of (mid r t)) (length r.start.parts) (length (mid r t).links) link_rest in
+            ap (λ l. l ++ records r.link r.link_wires everyone t (links_of (mid r t)) (length r.start.parts)) a ∙ b);
         stirs =
-          (let a : stirs r.part r.part_wires everyone t (parts_of (world_at r t)) ≡ false = sym (due_stirs c vp end t (length (world_at r t).parts) ci (omega arith)) ∙ nobody_stirs r.part r.part_wires (due_at_time c t) t (parts_of (world_at r t)) (length (world_at r t).parts) part_rest in
-           let b : stirs r.link r.link_wires everyone t (links_of (mid r t)) ≡ false = sym (due_stirs k vn end t (length (mid r t).links) ki (omega arith)) ∙ nobody_stirs r.link r.link_wires (due_at_time k t) t (links_of (mid r t)) (length (mid r t).links) link_rest in
-           rw a b);
+            (let a : stirs r.part r.part_wires everyone t (parts_of (world_at r t)) ≡ false = sym (due_stirs c vp end t (length (world_at r t).parts) ci (omega arith)) ∙ nobody_stirs r.part r.part_wires (due_at_time c t) t (parts_of (world_at r t)) (length (world_at r t).parts) part_rest in
+            let b : stirs r.link r.link_wires everyone t (links_of (mid r t)) ≡ false = sym (due_stirs k vn end t (length (mid r t).links) ki (omega arith)) ∙ nobody_stirs r.link r.link_wires (due_at_time k t) t (links_of (mid r t)) (length (mid r t).links) link_rest in
+            rw a b);
         awake =
-          (let a : steps_of r.part r.part_wires (λ i. awake c i t) t (parts_of (world_at r t)) ≡ 0 = sym (due_steps c vp end t (length (world_at r t).parts) ci (omega arith)) ∙ nobody_steps r.part r.part_wires (due_at_time c t) t (parts_of (world_at r t)) (length (world_at r t).parts) part_rest in
-           let b : steps_of r.link r.link_wires (λ i. awake k i t) t (links_of (mid r t)) ≡ 0 = sym (due_steps k vn end t (length (mid r t).links) ki (omega arith)) ∙ nobody_steps r.link r.link_wires (due_at_time k t) t (links_of (mid r t)) (length (mid r t).links) link_rest in
-           omega (arith, a, b));
+            (let a : steps_of r.part r.part_wires (λ i. awake c i t) t (parts_of (world_at r t)) ≡ 0 = sym (due_steps c vp end t (length (world_at r t).parts) ci (omega arith)) ∙ nobody_steps r.part r.part_wires (due_at_time c t) t (parts_of (world_at r t)) (length (world_at r t).parts) part_rest in
+            let b : steps_of r.link r.link_wires (λ i. awake k i t) t (links_of (mid r t)) ≡ 0 = sym (due_steps k vn end t (length (mid r t).links) ki (omega arith)) ∙ nobody_steps r.link r.link_wires (due_at_time k t) t (links_of (mid r t)) (length (mid r t).links) link_rest in
+            omega (arith, a, b));
       }

@@ -156,13 +156,14 @@ module _ {S : Type 0} where
   no_more m w stepped t h i s at edge waits =
       side_is _ _ _ _
       (same_lists (map_index (state_after m w (also stepped i) t h.ports) 0 h.states) (map_index (state_after m w stepped t h.ports) 0 h.states) (length-map_index _ 0 h.states ∙ sym (length-map_index (state_after m w stepped t h.ports) 0 h.states))
-       (λ k d l. let b : k < length h.states = omega (arith, l, length-map_index (state_after m w (also stepped i) t h.ports) 0 h.states) in get-map_index_zero (state_after m w (also stepped i) t h.ports) h.states k d d b ∙ state k d (k == i) refl ∙ sym (get-map_index_zero (state_after m w stepped t h.ports) h.states k d d b)))
+      (λ k d l. let b : k < length h.states = omega (arith, l, length-map_index (state_after m w (also stepped i) t h.ports) 0 h.states) in get-map_index_zero (state_after m w (also stepped i) t h.ports) h.states k d d b ∙ state k d (k == i) refl ∙ sym (get-map_index_zero (state_after m w stepped t h.ports) h.states k d d b)))
       (same_lists (map_index (port_after m w (also stepped i) t h) 0 h.ports) (map_index (port_after m w stepped t h) 0 h.ports) (length-map_index _ 0 h.ports ∙ sym (length-map_index (port_after m w stepped t h) 0 h.ports))
-       (λ q d l. let b : q < length h.ports = omega (arith, l, length-map_index (port_after m w (also stepped i) t h) 0 h.ports) in get-map_index_zero (port_after m w (also stepped i) t h) h.ports q d d b ∙ port q d (owner_of w q == i) refl ∙ sym (get-map_index_zero (port_after m w stepped t h) h.ports q d d b)))
+      (λ q d l. let b : q < length h.ports = omega (arith, l, length-map_index (port_after m w (also stepped i) t h) 0 h.ports) in get-map_index_zero (port_after m w (also stepped i) t h) h.ports q d d b ∙ port q d (owner_of w q == i) refl ∙ sym (get-map_index_zero (port_after m w stepped t h) h.ports q d d b)))
     where
       state : (k : ℕ) (d : S) (b : Bool) → (k == i) ≡ b → state_after m w (also stepped i) t h.ports k (get_or h.states k d) ≡ state_after m w stepped t h.ports k (get_or h.states k d)
       state k d true e = let f = is_same k i e in state_rests m w stepped t h.ports i s edge waits k (get_or h.states k d) e f (ap (λ j. get_or h.states j d) f ∙ get_or_from_slice_get h.states i s d at)
       state k d false e = state_waits m w stepped t h.ports i k (get_or h.states k d) e
+
       port : (q : ℕ) (d : PortView) (b : Bool) → (owner_of w q == i) ≡ b → port_after m w (also stepped i) t h q (get_or h.ports q d) ≡ port_after m w stepped t h q (get_or h.ports q d)
       port q d true e = let f = is_same (owner_of w q) i e in port_rests m w stepped t h.ports i s edge waits q (get_or h.ports q d) (slice_get h.states (owner_of w q)) e f (ap (λ j. slice_get h.states j) f ∙ at)
       port q d false e = port_waits m w stepped t h.ports i q (get_or h.ports q d) (slice_get h.states (owner_of w q)) e

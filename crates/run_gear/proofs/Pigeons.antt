@@ -32,6 +32,7 @@ has_without q (x ∷ xs) k h = at (x == q) refl h (λ r. has_without q xs k r)
     first : (x == q) ≡ false → (r : Has (x ∷ without q xs) k) → (Has (without q xs) k → Has xs k × (k ≢ q)) → Has (x ∷ xs) k × (k ≢ q)
     first e (zero, l, f) rest = ((zero, omega arith, f), λ g. other_of x q e (f ∙ g))
     first e (suc j, l, f) rest = let r = rest (j, omega arith, f) in (has_rest x xs k r.0, r.1)
+
     at : (b : Bool) → (x == q) ≡ b → Has (keep b x (without q xs)) k → (Has (without q xs) k → Has xs k × (k ≢ q)) → Has (x ∷ xs) k × (k ≢ q)
     at true e r rest = let s = rest r in (has_rest x xs k s.0, s.1)
     at false e r rest = first e r rest

@@ -26,10 +26,7 @@ fn own_lists(alloc: Global, own: &[Vec<PortNo>]) -> Result<Vec<Vec<u32>>, OutOfM
     Ok(lists)
 }
 
-fn owners(
-    alloc: Global,
-    ports: &[PortPlan],
-) -> Result<(Vec<u32>, Vec<u32>), OutOfMemory>
+fn owners(alloc: Global, ports: &[PortPlan]) -> Result<(Vec<u32>, Vec<u32>), OutOfMemory>
     ensures parts { IfOk result (λ o. o.0.items ≡ map (λ (p : PortPlan). p.part.0) ports.now) }
     ensures links { IfOk result (λ o. o.1.items ≡ map (λ (p : PortPlan). p.link.0) ports.now) }
 {

@@ -30,6 +30,6 @@ pub faces_noted : (w : Wires) (n : ℕ) (side : Bool) (faces : List Face) (old n
     IsTable now (λ j. woken (any_of (λ q. differs (face_at faces q) (face_of side (port_at new q))) (own_of w j)) (edge j) (next_at_place start j)) (length start) →
     IsTable now (λ j. woken (any_of (λ q. face_differs side (port_at old q) (port_at new q)) (own_of w j)) (edge j) (next_at_place start j)) (length start)
 faces_noted w n side faces old new edge start now wired noted is = record {
-    long = is.long;
-    at = λ j b. is.at j b ∙ ap (λ x. woken x (edge j) (next_at_place start j)) (any_same (λ q. differs (face_at faces q) (face_of side (port_at new q))) (λ q. face_differs side (port_at old q) (port_at new q)) (own_of w j) (λ q has. ap (λ f. differs f (face_of side (port_at new q))) (noted q (wired.within j q has)) ∙ face-differs side (port_at old q) (port_at new q)));
-  }
+  long = is.long;
+  at = λ j b. is.at j b ∙ ap (λ x. woken x (edge j) (next_at_place start j)) (any_same (λ q. differs (face_at faces q) (face_of side (port_at new q))) (λ q. face_differs side (port_at old q) (port_at new q)) (own_of w j) (λ q has. ap (λ f. differs f (face_of side (port_at new q))) (noted q (wired.within j q has)) ∙ face-differs side (port_at old q) (port_at new q)));
+}

@@ -45,12 +45,16 @@ module _ {S : Type 0} where
     where
       seat : slice_get actors i ≡ Some (Some (state_after m w (firsts stepped (suc i)) t h.ports i s))
       seat = ap (λ (x : SidePlaces S). slice_get x.actors i) is ∙ alls_forth (pass m w (firsts stepped (suc i)) t h).states i (state_after m w (firsts stepped (suc i)) t h.ports i s) (get_map_some (state_after m w (firsts stepped (suc i)) t h.ports) 0 h.states i s at ∙ ap (λ j. Some (state_after m w (firsts stepped (suc i)) t h.ports j s)) (let z : 0 + i ≡ i = omega arith in z))
+
       has_stepped : firsts stepped (suc i) i ≡ true
       has_stepped = firsts_are stepped (suc i) i (omega arith) ∙ due
+
       state : (b : Bool) → has_edge m t s ≡ b → state_after m w (firsts stepped (suc i)) t h.ports i s ≡ state_if b (step_of m w t h.ports i s).state s
       state b e = ap (λ x. state_if (x && has_edge m t s) (step_of m w t h.ports i s).state s) has_stepped ∙ ap (λ x. state_if x (step_of m w t h.ports i s).state s) e
+
       made_is : (b : Bool) → has_edge m t s ≡ b → outcome m w stepped t h i ≡ outcome_if b (step_of m w t h.ports i s)
       made_is b e = ap (λ o. outcome_by m w stepped t h.ports i o) at ∙ ap (λ x. outcome_if (x && has_edge m t s) (step_of m w t h.ports i s)) due ∙ ap (λ x. outcome_if x (step_of m w t h.ports i s)) e
+
       by_edge : (b : Bool) → has_edge m t s ≡ b → next_seat m t (flag_of (outcome m w stepped t h i)) old (slice_get actors i) ≡ next_after m t (outcome m w stepped t h i) old
       by_edge true e =
           let st = step_of m w t h.ports i s in
@@ -71,10 +75,10 @@ module _ {S : Type 0} where
   pub noted_more : (stepping : Stepping) (m : Machine S) (valid : S → Type 0) (w : Wires) (t i : ℕ) (h : Side S) (start now new : List (Option ℕ)) (actors : List (Option S)) (ports : List (Option PortView)) (flag : Bool) → Lawful m valid → Wired w (length h.ports) → IsSound m valid w h → length start ≡ length h.states → i < length h.states → chosen stepping start t i ≡ true → Noted stepping m w t i h start now →
       side_places actors ports ≡ whole_side (pass m w (firsts (chosen stepping start t) (suc i)) t h) → flag ≡ flag_of (outcome m w (chosen stepping start t) t h i) → new ≡ slice_set now i (next_seat m t flag (next_at_place now i) (slice_get actors i)) → Noted stepping m w t (suc i) h start new
   noted_more stepping m valid w t i h start now new actors ports flag law wired sound same b due was is flags set = record {
-      long = ap length set ∙ length-set now i _ ∙ was.long;
-      done = λ k l. done k l (k == i) refl;
-      left = λ k l. ap (λ xs. next_at_place xs k) set ∙ get_or-set_other now i k _ None (let ne : k ≢ i = omega arith in ne) ∙ was.left k (omega arith);
-    }
+    long = ap length set ∙ length-set now i _ ∙ was.long;
+    done = λ k l. done k l (k == i) refl;
+    left = λ k l. ap (λ xs. next_at_place xs k) set ∙ get_or-set_other now i k _ None (let ne : k ≢ i = omega arith in ne) ∙ was.left k (omega arith);
+  }
     where
       value : next_seat m t flag (next_at_place now i) (slice_get actors i) ≡ next_after m t (outcome m w (chosen stepping start t) t h i) (next_at_place start i)
       value =
@@ -82,6 +86,7 @@ module _ {S : Type 0} where
           ap (λ x. next_seat m t x (next_at_place now i) (slice_get actors i)) flags
           ∙ seat_next m w (chosen stepping start t) t i h actors ports (next_at_place now i) f.0 due is f.1 (period_kept m valid w t i h f.0 law wired sound f.1)
           ∙ ap (λ o. next_after m t (outcome m w (chosen stepping start t) t h i) o) (was.left i (omega arith))
+
       done : (k : ℕ) → k < suc i → (x : Bool) → (k == i) ≡ x → next_at_place new k ≡ next_after m t (outcome m w (chosen stepping start t) t h k) (next_at_place start k)
       done k l true e =
           let f : k ≡ i = is_same k i e in
@@ -93,10 +98,10 @@ module _ {S : Type 0} where
 
   pub noted_skip : (stepping : Stepping) (m : Machine S) (w : Wires) (t i : ℕ) (h : Side S) (start now : List (Option ℕ)) → chosen stepping start t i ≡ false → Noted stepping m w t i h start now → Noted stepping m w t (suc i) h start now
   noted_skip stepping m w t i h start now rests was = record {
-      long = was.long;
-      done = λ k l. done k l (k == i) refl;
-      left = λ k l. was.left k (omega arith);
-    }
+    long = was.long;
+    done = λ k l. done k l (k == i) refl;
+    left = λ k l. was.left k (omega arith);
+  }
     where
       done : (k : ℕ) → k < suc i → (x : Bool) → (k == i) ≡ x → next_at_place now k ≡ next_after m t (outcome m w (chosen stepping start t) t h k) (next_at_place start k)
       done k l true e =

@@ -56,9 +56,9 @@ waked_none w test edge start = record { long = refl; at = λ j b. sym (ap (λ x.
 
 pub waked_skip : (w : Wires) (test : ℕ → Bool) (edge : ℕ → ℕ) (start now : List (Option ℕ)) (n : ℕ) → test n ≡ false → Waked w test edge start now n → Waked w test edge start now (suc n)
 waked_skip w test edge start now n e was = record {
-    long = was.long;
-    at = λ j b. was.at j b ∙ ap (λ x. woken x (edge j) (next_at_place start j)) (any_same (upto n test) (upto (suc n) test) (own_of w j) (λ q has. same q (q == n) refl));
-  }
+  long = was.long;
+  at = λ j b. was.at j b ∙ ap (λ x. woken x (edge j) (next_at_place start j)) (any_same (upto n test) (upto (suc n) test) (own_of w j) (λ q has. same q (q == n) refl));
+}
   where
     same : (q : ℕ) → (x : Bool) → (q == n) ≡ x → upto n test q ≡ upto (suc n) test q
     same q true f = let g : q ≡ n = is_same q n f in subst (λ j. upto n test j ≡ upto (suc n) test j) (sym g) (ap (λ b. nat_lt n n && b) e ∙ off (nat_lt n n) ∙ sym (ap (λ b. nat_lt n (suc n) && b) e ∙ off (nat_lt n (suc n))))
@@ -70,9 +70,9 @@ waked_skip w test edge start now n e was = record {
 
 pub waked_more : (w : Wires) (ports : ℕ) (test : ℕ → Bool) (edge : ℕ → ℕ) (start now new : List (Option ℕ)) (n : ℕ) → Wired w ports → n < ports → owner_of w n < length start → test n ≡ true → new ≡ slice_set now (owner_of w n) (Some (edge (owner_of w n))) → Waked w test edge start now n → Waked w test edge start new (suc n)
 waked_more w ports test edge start now new n wired b owned e set was = record {
-    long = ap length set ∙ length-set now (owner_of w n) _ ∙ was.long;
-    at = λ j l. at j l (j == owner_of w n) refl;
-  }
+  long = ap length set ∙ length-set now (owner_of w n) _ ∙ was.long;
+  at = λ j l. at j l (j == owner_of w n) refl;
+}
   where
     at : (j : ℕ) → j < length start → (x : Bool) → (j == owner_of w n) ≡ x → next_at_place new j ≡ woken (any_of (upto (suc n) test) (own_of w j)) (edge j) (next_at_place start j)
     at j l true f =
@@ -89,6 +89,6 @@ waked_more w ports test edge start now new n wired b owned e set was = record {
 
 pub waked_all : (w : Wires) (ports : ℕ) (test : ℕ → Bool) (edge : ℕ → ℕ) (start now : List (Option ℕ)) (n : ℕ) → Wired w ports → ports ≤ n → Waked w test edge start now n → IsTable now (λ j. woken (any_of test (own_of w j)) (edge j) (next_at_place start j)) (length start)
 waked_all w ports test edge start now n wired b was = record {
-    long = was.long;
-    at = λ j l. was.at j l ∙ ap (λ x. woken x (edge j) (next_at_place start j)) (any_same (upto n test) test (own_of w j) (λ q has. ap (λ b. b && test q) (lt_true q n (let m = wired.within j q has in omega (arith, m, b)))));
-  }
+  long = was.long;
+  at = λ j l. was.at j l ∙ ap (λ x. woken x (edge j) (next_at_place start j)) (any_same (upto n test) test (own_of w j) (λ q has. ap (λ b. b && test q) (lt_true q n (let m = wired.within j q has in omega (arith, m, b)))));
+}

@@ -83,10 +83,10 @@ module _ {P N : Type 0} where
   -- after the first half
   pub to_mid : (stepping : Stepping) (r : System P N) (vp : P → Type 0) (vn : N → Type 0) (hand room t : ℕ) (pp lp : List ℕ) (world : WorldPlaces P N) (parts links parts1 links1 : List (Option ℕ)) (actors1 : List (Option P)) (ports1 : List (Option PortView)) → Fitted r vp vn hand room pp lp → t ≤ 500000000000 → IsBoundary r t world parts links →
       (let h = side_of world.parts world.ports in
-       side_places actors1 ports1 ≡ whole_side (pass r.part r.part_wires (chosen stepping parts t) t h)
-       → IsTable parts1 (λ i. next_after r.part t (outcome r.part r.part_wires (chosen stepping parts t) t h i) (next_at_place parts i)) (length h.states)
-       → IsTable links1 (λ j. woken (any_of (λ q. face_differs false (port_at (somes world.ports) q) (port_at (somes ports1) q)) (own_of r.link_wires j)) (edge_from (slice_index_or lp j 0) t) (next_at_place links j)) (length links)
-       → IsMid r t (record { parts = actors1; links = world.links; ports = ports1 }) parts1 links1)
+      side_places actors1 ports1 ≡ whole_side (pass r.part r.part_wires (chosen stepping parts t) t h)
+      → IsTable parts1 (λ i. next_after r.part t (outcome r.part r.part_wires (chosen stepping parts t) t h i) (next_at_place parts i)) (length h.states)
+      → IsTable links1 (λ j. woken (any_of (λ q. face_differs false (port_at (somes world.ports) q) (port_at (somes ports1) q)) (own_of r.link_wires j)) (edge_from (slice_index_or lp j 0) t) (next_at_place links j)) (length links)
+      → IsMid r t (record { parts = actors1; links = world.links; ports = ports1 }) parts1 links1)
   to_mid stepping r vp vn hand room t pp lp world parts links parts1 links1 actors1 ports1 f l was a b w =
       primary_kept stepping r vp vn t world parts links parts1 links1 actors1 ports1 f.set_up l was a b
       (table_same links1 _ _ (length links) (λ j b. ap (λ x. woken (any_of (λ q. face_differs false (port_at (somes world.ports) q) (port_at (somes ports1) q)) (own_of r.link_wires j)) (edge_from x t) (next_at_place links j)) (f.link_period j (subst (λ n. j < n) was.links_are.long b)).0) w)
@@ -94,10 +94,10 @@ module _ {P N : Type 0} where
   -- and after the second
   pub to_next : (stepping : Stepping) (r : System P N) (vp : P → Type 0) (vn : N → Type 0) (hand room t : ℕ) (pp lp : List ℕ) (world : WorldPlaces P N) (parts links parts1 links1 : List (Option ℕ)) (actors1 : List (Option N)) (ports1 : List (Option PortView)) → Fitted r vp vn hand room pp lp → t ≤ 500000000000 → IsMid r t world parts links →
       (let h = side_of world.links world.ports in
-       side_places actors1 ports1 ≡ whole_side (pass r.link r.link_wires (chosen stepping links t) t h)
-       → IsTable links1 (λ i. next_after r.link t (outcome r.link r.link_wires (chosen stepping links t) t h i) (next_at_place links i)) (length h.states)
-       → IsTable parts1 (λ j. woken (any_of (λ q. face_differs true (port_at (somes world.ports) q) (port_at (somes ports1) q)) (own_of r.part_wires j)) (edge_from (slice_index_or pp j 0) (t + 1)) (next_at_place parts j)) (length parts)
-       → IsBoundary r (t + 1) (record { parts = world.parts; links = actors1; ports = ports1 }) parts1 links1)
+      side_places actors1 ports1 ≡ whole_side (pass r.link r.link_wires (chosen stepping links t) t h)
+      → IsTable links1 (λ i. next_after r.link t (outcome r.link r.link_wires (chosen stepping links t) t h i) (next_at_place links i)) (length h.states)
+      → IsTable parts1 (λ j. woken (any_of (λ q. face_differs true (port_at (somes world.ports) q) (port_at (somes ports1) q)) (own_of r.part_wires j)) (edge_from (slice_index_or pp j 0) (t + 1)) (next_at_place parts j)) (length parts)
+      → IsBoundary r (t + 1) (record { parts = world.parts; links = actors1; ports = ports1 }) parts1 links1)
   to_next stepping r vp vn hand room t pp lp world parts links parts1 links1 actors1 ports1 f l was a b w =
       secondary_kept stepping r vp vn t world parts links parts1 links1 actors1 ports1 f.set_up l was a b
       (table_same parts1 _ _ (length parts) (λ j b. ap (λ x. woken (any_of (λ q. face_differs true (port_at (somes world.ports) q) (port_at (somes ports1) q)) (own_of r.part_wires j)) (edge_from x (t + 1)) (next_at_place parts j)) (f.part_period j (subst (λ n. j < n) was.parts_are.long b)).0) w)

@@ -66,9 +66,9 @@ module _ {S : Type 0} where
     table = λ new new_is. record {
       long = new_is.long;
       at = λ i b.
-        new_is.at i b
-        ∙ ap (λ o. next_after c.machine t (outcome c.machine c.wires everyone t (c.before t) i) o) (table.at i b)
-        ∙ next_chosen c valid end t i everyone is l (let e = count_is c valid end t is in omega (arith, b, e)) refl;
+          new_is.at i b
+          ∙ ap (λ o. next_after c.machine t (outcome c.machine c.wires everyone t (c.before t) i) o) (table.at i b)
+          ∙ next_chosen c valid end t i everyone is l (let e = count_is c valid end t is in omega (arith, b, e)) refl;
     };
   }
   pass_kept Due c valid end t base next is l owned table =
@@ -85,10 +85,10 @@ module _ {S : Type 0} where
         table = λ new new_is. record {
           long = new_is.long;
           at = λ i b.
-            new_is.at i b
-            ∙ ap (λ o. next_after m t (outcome m w (chosen Due next t) t h i) o) (table.at i b)
-            ∙ ap (λ o. next_after m t o (ready c i t)) (made_who m w (chosen Due next t) (due_at_time c t) t i h.ports (slice_get h.states i) (same i b))
-            ∙ next_is c valid end t i is l (let e = count_is c valid end t is in omega (arith, b, e));
+              new_is.at i b
+              ∙ ap (λ o. next_after m t (outcome m w (chosen Due next t) t h i) o) (table.at i b)
+              ∙ ap (λ o. next_after m t o (ready c i t)) (made_who m w (chosen Due next t) (due_at_time c t) t i h.ports (slice_get h.states i) (same i b))
+              ∙ next_is c valid end t i is l (let e = count_is c valid end t is in omega (arith, b, e));
         };
       }
 
@@ -108,10 +108,10 @@ module _ {P N : Type 0} where
   -- the primary pass and its wakes
   pub primary_kept : (stepping : Stepping) (r : System P N) (vp : P → Type 0) (vn : N → Type 0) (t : ℕ) (world : WorldPlaces P N) (parts links parts1 links1 : List (Option ℕ)) (actors1 : List (Option P)) (ports1 : List (Option PortView)) → IsSetUp r vp vn → t ≤ 500000000000 → IsBoundary r t world parts links →
       (let h = side_of world.parts world.ports in
-       side_places actors1 ports1 ≡ whole_side (pass r.part r.part_wires (chosen stepping parts t) t h)
-       → IsTable parts1 (λ i. next_after r.part t (outcome r.part r.part_wires (chosen stepping parts t) t h i) (next_at_place parts i)) (length h.states)
-       → IsTable links1 (λ j. woken (any_of (λ q. face_differs false (port_at (somes world.ports) q) (port_at (somes ports1) q)) (own_of r.link_wires j)) (edge_from (period (link_course r) j) t) (next_at_place links j)) (length links)
-       → IsMid r t (record { parts = actors1; links = world.links; ports = ports1 }) parts1 links1)
+      side_places actors1 ports1 ≡ whole_side (pass r.part r.part_wires (chosen stepping parts t) t h)
+      → IsTable parts1 (λ i. next_after r.part t (outcome r.part r.part_wires (chosen stepping parts t) t h i) (next_at_place parts i)) (length h.states)
+      → IsTable links1 (λ j. woken (any_of (λ q. face_differs false (port_at (somes world.ports) q) (port_at (somes ports1) q)) (own_of r.link_wires j)) (edge_from (period (link_course r) j) t) (next_at_place links j)) (length links)
+      → IsMid r t (record { parts = actors1; links = world.links; ports = ports1 }) parts1 links1)
   primary_kept stepping r vp vn t world parts links parts1 links1 actors1 ports1 up l was pass_is table wakes =
       let c = part_course r in
       let k = link_course r in
@@ -135,21 +135,21 @@ module _ {P N : Type 0} where
         links_are = record {
           long = wakes.long ∙ was.links_are.long;
           at = λ j b.
-            wakes.at j (let e = was.links_are.long in omega (arith, b, e))
-            ∙ ap (λ x. woken (any_of (λ q. face_differs false (port_at x q) (port_at (somes ports1) q)) (own_of r.link_wires j)) (edge_from (period k j) t) (next_at_place links j)) before_ports
-            ∙ ap (λ x. woken (any_of (λ q. face_differs false (port_at w.ports q) (port_at x q)) (own_of r.link_wires j)) (edge_from (period k j) t) (next_at_place links j)) after_ports
-            ∙ ap (λ o. woken (parts_face r t j) (edge_from (period k j) t) o) (was.links_are.at j b)
-            ∙ sym (link_woken r t j (period_at_start k vn end j ki b));
+              wakes.at j (let e = was.links_are.long in omega (arith, b, e))
+              ∙ ap (λ x. woken (any_of (λ q. face_differs false (port_at x q) (port_at (somes ports1) q)) (own_of r.link_wires j)) (edge_from (period k j) t) (next_at_place links j)) before_ports
+              ∙ ap (λ x. woken (any_of (λ q. face_differs false (port_at w.ports q) (port_at x q)) (own_of r.link_wires j)) (edge_from (period k j) t) (next_at_place links j)) after_ports
+              ∙ ap (λ o. woken (parts_face r t j) (edge_from (period k j) t) o) (was.links_are.at j b)
+              ∙ sym (link_woken r t j (period_at_start k vn end j ki b));
         };
       }
 
   -- the secondary pass and its wakes
   pub secondary_kept : (stepping : Stepping) (r : System P N) (vp : P → Type 0) (vn : N → Type 0) (t : ℕ) (world : WorldPlaces P N) (parts links parts1 links1 : List (Option ℕ)) (actors1 : List (Option N)) (ports1 : List (Option PortView)) → IsSetUp r vp vn → t ≤ 500000000000 → IsMid r t world parts links →
       (let h = side_of world.links world.ports in
-       side_places actors1 ports1 ≡ whole_side (pass r.link r.link_wires (chosen stepping links t) t h)
-       → IsTable links1 (λ i. next_after r.link t (outcome r.link r.link_wires (chosen stepping links t) t h i) (next_at_place links i)) (length h.states)
-       → IsTable parts1 (λ j. woken (any_of (λ q. face_differs true (port_at (somes world.ports) q) (port_at (somes ports1) q)) (own_of r.part_wires j)) (edge_from (period (part_course r) j) (t + 1)) (next_at_place parts j)) (length parts)
-       → IsBoundary r (t + 1) (record { parts = world.parts; links = actors1; ports = ports1 }) parts1 links1)
+      side_places actors1 ports1 ≡ whole_side (pass r.link r.link_wires (chosen stepping links t) t h)
+      → IsTable links1 (λ i. next_after r.link t (outcome r.link r.link_wires (chosen stepping links t) t h i) (next_at_place links i)) (length h.states)
+      → IsTable parts1 (λ j. woken (any_of (λ q. face_differs true (port_at (somes world.ports) q) (port_at (somes ports1) q)) (own_of r.part_wires j)) (edge_from (period (part_course r) j) (t + 1)) (next_at_place parts j)) (length parts)
+      → IsBoundary r (t + 1) (record { parts = world.parts; links = actors1; ports = ports1 }) parts1 links1)
   secondary_kept stepping r vp vn t world parts links parts1 links1 actors1 ports1 up l was pass_is table wakes =
       let c = part_course r in
       let k = link_course r in
@@ -173,10 +173,10 @@ module _ {P N : Type 0} where
         parts_are = record {
           long = wakes.long ∙ was.parts_are.long;
           at = λ j b.
-            wakes.at j (let e = was.parts_are.long in omega (arith, b, e))
-            ∙ ap (λ x. woken (any_of (λ q. face_differs true (port_at x q) (port_at (somes ports1) q)) (own_of r.part_wires j)) (edge_from (period c j) (t + 1)) (next_at_place parts j)) before_ports
-            ∙ ap (λ x. woken (any_of (λ q. face_differs true (port_at w.ports q) (port_at x q)) (own_of r.part_wires j)) (edge_from (period c j) (t + 1)) (next_at_place parts j)) after_ports
-            ∙ ap (λ o. woken (links_face r t j) (edge_from (period c j) (t + 1)) o) (was.parts_are.at j b)
-            ∙ sym (part_woken r t j (period_at_start c vp end j ci b));
+              wakes.at j (let e = was.parts_are.long in omega (arith, b, e))
+              ∙ ap (λ x. woken (any_of (λ q. face_differs true (port_at x q) (port_at (somes ports1) q)) (own_of r.part_wires j)) (edge_from (period c j) (t + 1)) (next_at_place parts j)) before_ports
+              ∙ ap (λ x. woken (any_of (λ q. face_differs true (port_at w.ports q) (port_at x q)) (own_of r.part_wires j)) (edge_from (period c j) (t + 1)) (next_at_place parts j)) after_ports
+              ∙ ap (λ o. woken (links_face r t j) (edge_from (period c j) (t + 1)) o) (was.parts_are.at j b)
+              ∙ sym (part_woken r t j (period_at_start c vp end j ci b));
         };
       }

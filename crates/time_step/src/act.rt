@@ -11,12 +11,10 @@ ghost use Rattle.tick_law.specs.Outcomes.{whats_of, flag_of, charge_of};
 ghost use Rattle.model_laws.specs.Outcome.{outcome_at};
 
 use crate::scratch::Scratch;
-use tick_law::Places;
-use tick_law::Wiring;
 use port_msg::{Port, RecList};
-use std::sync::ledger::Ledger;
-use tick_law::Actor;
 use sim_base::Steps;
+use std::sync::ledger::Ledger;
+use tick_law::{Actor, Places, Wiring};
 
 /// Takes these ports out of their whole_world, in order.
 fn gather_ports(ports: &mut Places<Port>, own: &[u32], hand: &mut Scratch)

@@ -14,15 +14,13 @@ ghost use Rattle.tick_law.specs.NextTime.{due_is, times};
 ghost use Rattle.model_laws.specs.Due.{next_after};
 ghost use Rattle.time_step.specs.Table.{IsTable, chosen, due_in, next_at_place, next_by, next_seat};
 
-use port_msg::{Port, RecList};
 use crate::act::act;
 use crate::scratch::Scratch;
 use crate::stepping::Stepping;
-use tick_law::Places;
-use tick_law::Wiring;
-use std::sync::ledger::Ledger;
-use tick_law::Actor;
+use port_msg::{Port, RecList};
 use sim_base::{ActorNo, Steps, Time};
+use std::sync::ledger::Ledger;
+use tick_law::{Actor, Places, Wiring};
 
 /// Whether one of two holds.
 pub fn either(a: bool, b: bool) -> bool
@@ -73,7 +71,13 @@ fn next_of<S: Actor>(actor: &S, t: u64, flag: bool, old: Option<u64>) -> Option<
 }
 
 /// Notes the next time of actor `no` after its step at `t`.
-fn note_next<S: Actor + Drop>(actors: &Places<S>, next: &mut [Option<u64>], no: u32, t: u64, flag: bool)
+fn note_next<S: Actor + Drop>(
+    actors: &Places<S>,
+    next: &mut [Option<u64>],
+    no: u32,
+    t: u64,
+    flag: bool,
+)
     requires here { no < length actors.now }
     requires there { no < length next.old }
     requires time { t ≤ 501000000000 }

@@ -5,11 +5,11 @@ ghost use Rattle.port_msg.specs.RecView.{RecView, records_at};
 ghost use Rattle.model_laws.specs.Places.{InHand};
 
 use port_msg::{Port, RecList};
+use sim_base::{OutOfMemory, Steps};
 use std::alloc::Global;
 use std::marker::Model;
 use std::sync::ledger::Ledger;
 use tick_law::Actor;
-use sim_base::{OutOfMemory, Steps};
 
 #[derive(Drop)]
 pub struct Scratch {

@@ -19,15 +19,13 @@ ghost use Rattle.time_step.specs.Gear.{Asks};
 ghost use Rattle.time_step.specs.Table.{IsTable, chosen, next_at_place};
 
 use crate::pass::pass_next;
-use crate::wake::{note_faces, wake_changed, Face};
-use port_msg::{Port, RecList};
 use crate::scratch::Scratch;
 use crate::stepping::Stepping;
-use tick_law::Places;
-use tick_law::Wiring;
-use std::sync::ledger::Ledger;
-use tick_law::Actor;
+use crate::wake::{Face, note_faces, wake_changed};
+use port_msg::{Port, RecList};
 use sim_base::Steps;
+use std::sync::ledger::Ledger;
+use tick_law::{Actor, Places, Wiring};
 
 /// One side's pass at `t`, and the wakes of the other side, whose face of a port is `part`'s.
 pub fn side_time<S: Actor + Drop, L: Ledger>(
@@ -64,7 +62,9 @@ pub fn side_time<S: Actor + Drop, L: Ledger>(
     ensures steps { steps.new ≡ steps.old + steps_of S.machine wiring.now (chosen stepping next.old t) t (side_of actors.old ports.old) }
 {
     note_faces(ports, faces, part);
-    let stirred = pass_next(stepping, actors, ports, wiring, next, base, t, hand, recs, steps);
+    let stirred = pass_next(
+        stepping, actors, ports, wiring, next, base, t, hand, recs, steps,
+    );
     wake_changed(ports, faces, part, others, periods, from, woken_next);
     stirred
 }

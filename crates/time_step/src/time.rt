@@ -12,18 +12,15 @@ ghost use Rattle.tick_law.specs.PlanView.{start_of};
 ghost use Rattle.time_step.specs.Gear.{Fitted};
 ghost use Rattle.time_step.specs.Kept.{IsBoundary};
 
+use crate::pass::either;
+use crate::scratch::Scratch;
 use crate::side_time::side_time;
+use crate::stepping::Stepping;
 use crate::wake::Face;
 use port_msg::{Port, RecList};
-use crate::pass::either;
-use tick_law::Charter;
-use crate::scratch::Scratch;
-use crate::stepping::Stepping;
-use tick_law::Places;
-use tick_law::Wiring;
-use std::sync::ledger::Ledger;
-use tick_law::Actor;
 use sim_base::Steps;
+use std::sync::ledger::Ledger;
+use tick_law::{Actor, Charter, Places, Wiring};
 
 /// Time `t`: the parts and then the links whose next time is `t` step, and wake those that see a change.
 pub fn step_time<P: Actor + Drop, N: Actor + Drop, C: Charter<P, N>, L: Ledger>(
@@ -59,7 +56,41 @@ pub fn step_time<P: Actor + Drop, N: Actor + Drop, C: Charter<P, N>, L: Ledger>(
     ensures flag { result ≡ stirs_at (system P.machine N.machine part_wires.now link_wires.now (start_of C.plan)) t }
     ensures steps { steps.new ≡ steps.old + steps_now stepping (system P.machine N.machine part_wires.now link_wires.now (start_of C.plan)) t }
 {
-    let a = side_time(stepping, parts, ports, part_wires, part_next, 0, t, false, link_wires, link_periods, t, link_next, faces, hand, recs, steps);
-    let b = side_time(stepping, links, ports, link_wires, link_next, base, t, true, part_wires, part_periods, t + 1, part_next, faces, hand, recs, steps);
+    let a = side_time(
+        stepping,
+        parts,
+        ports,
+        part_wires,
+        part_next,
+        0,
+        t,
+        false,
+        link_wires,
+        link_periods,
+        t,
+        link_next,
+        faces,
+        hand,
+        recs,
+        steps,
+    );
+    let b = side_time(
+        stepping,
+        links,
+        ports,
+        link_wires,
+        link_next,
+        base,
+        t,
+        true,
+        part_wires,
+        part_periods,
+        t + 1,
+        part_next,
+        faces,
+        hand,
+        recs,
+        steps,
+    );
     either(a, b)
 }

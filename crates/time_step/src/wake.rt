@@ -11,8 +11,7 @@ ghost use Rattle.time_step.specs.Face.{differs, face_at, face_of};
 ghost use Rattle.time_step.specs.Table.{IsTable, next_at_place};
 
 use port_msg::Port;
-use tick_law::Places;
-use tick_law::Wiring;
+use tick_law::{Places, Wiring};
 
 /// What is seen of a port from one side: whether there is a head, and whether there is room.
 #[derive(Clone, Copy, Drop)]
@@ -34,9 +33,15 @@ fn seen(port: &Port, part: bool) -> Face
     ensures { result ≡ face_of part port.now }
 {
     if part {
-        Face { head: port.in_head().is_some(), room: port.out_room() > 0 }
+        Face {
+            head: port.in_head().is_some(),
+            room: port.out_room() > 0,
+        }
     } else {
-        Face { head: port.out_head().is_some(), room: port.in_room() > 0 }
+        Face {
+            head: port.out_head().is_some(),
+            room: port.in_room() > 0,
+        }
     }
 }
 
@@ -47,17 +52,13 @@ fn other_face(a: Face, b: Face) -> bool
 }
 
 /// The least multiple of `period` that is not below `t`.
-fn edge(period: u64, t: u64) -> u64
+pub fn edge(period: u64, t: u64) -> u64
     requires period { (0 < period) × (period ≤ 1000000000) }
     requires time { t ≤ 501000000000 }
     ensures { result ≡ edge_from period t }
 {
     let past = t % period;
-    if past == 0 {
-        t
-    } else {
-        t + (period - past)
-    }
+    if past == 0 { t } else { t + (period - past) }
 }
 
 fn face_in(ports: &Places<Port>, port: u32, part: bool) -> Face
@@ -67,7 +68,10 @@ fn face_in(ports: &Places<Port>, port: u32, part: bool) -> Face
 {
     match ports.get(port) {
         Some(at) => seen(at, part),
-        None => Face { head: false, room: false },
+        None => Face {
+            head: false,
+            room: false,
+        },
     }
 }
 

@@ -26,6 +26,6 @@ loop-port-preserved c =
       count = omega arith;
       left = scatter_more c.loop-port.ports c.put.new.self own c.loop-port.hand.ports rest c.in-Some.port n b (omega arith) ports put ∙ ap (λ k. scatter c.loop-port.ports (take k own) (alls c.loop-port.hand.ports)) next ∙ c.loop-port.invariant.left;
       empty = λ k h.
-        let other : k ≢ get_or own n 0 = λ e. apart_take own n c.requires.apart b (subst (λ j. Has (take n own) j) e h) in
-        ap (λ l. slice_get l k) put ∙ set_elsewhere c.loop-port.ports (get_or own n 0) k (Some c.in-Some.port) other ∙ c.loop-port.invariant.empty k (subst (λ j. Has (take j own) k) next (has_more own n k b h));
+          let other : k ≢ get_or own n 0 = λ e. apart_take own n c.requires.apart b (subst (λ j. Has (take n own) j) e h) in
+          ap (λ l. slice_get l k) put ∙ set_elsewhere c.loop-port.ports (get_or own n 0) k (Some c.in-Some.port) other ∙ c.loop-port.invariant.empty k (subst (λ j. Has (take j own) k) next (has_more own n k b h));
     }

@@ -76,32 +76,32 @@ loop-no-preserved g c =
     let below : c.loop-no.no < length h.states = omega (arith, c.count-no-end.ensures, c.requires.fits.same) in
     let inv = c.loop-no.invariant in
     elim c.if-is_chosen.branch [
-      then-is_chosen w ↦ (
-        let due : stepped c.loop-no.no ≡ true = chosen_same c.args.stepping c.args.next.now c.loop-no.next c.args.t c.loop-no.no (sym (inv.noted.left c.loop-no.no (omega arith))) ∙ sym c.is_chosen.ensures ∙ w.if-is_chosen.true in
-        let gave = outcome_more m c.args.wiring.now stepped c.args.t c.loop-no.no h (side_places c.loop-no.actors c.loop-no.ports) w.own.result.now due wired w.own.ensures inv.side_places below in
-        let law : Lawful m g.S.Actor.valid = record { framed = g.met.S.Actor.framed; stays = g.met.S.Actor.stays } in
-        let more = step_more m c.args.wiring.now stepped c.args.t c.loop-no.no h (side_places c.loop-no.actors c.loop-no.ports) (side_places w.act-flag.new.actors w.act-flag.new.ports) w.own.result.now due wired w.own.ensures inv.side_places below w.act-flag.ensures.side_places w.act-flag.ensures.same in
-        let flags : w.act-flag.result ≡ flag_of (outcome m c.args.wiring.now stepped c.args.t h c.loop-no.no) = w.act-flag.ensures.flag ∙ ap (λ o. flag_of o) gave in
-        record {
-          side_places = rw add-one (side_places_is _ _ _ _ w.actors-is w.ports-is ∙ more);
-          hand = w.hand-is ∙ w.act-flag.ensures.hand ∙ inv.hand;
-          room = ap (λ (r : RecView). r.room) (w.recs-is ∙ w.act-flag.ensures.records) ∙ ap (λ (r : RecView). r.room) w.begin.ensures ∙ inv.room;
-          records = rw add-one (ap (λ (r : RecView). r.items) (w.recs-is ∙ w.act-flag.ensures.records) ∙ ap (λ (r : RecView). r.items ++ records_at r.at r.actor (whats_of (outcome_at m w.own.result.now c.args.t (somes c.loop-no.ports) (slice_get c.loop-no.actors c.loop-no.no)))) w.begin.ensures ∙ records_more m c.args.wiring.now stepped c.args.t c.loop-no.no h c.args.base _ c.args.recs.now.items c.loop-no.recs.items gave inv.records);
-          flag = rw add-one (w.stirred-is ∙ w.either-stirred.ensures ∙ ap (λ b. c.loop-no.stirred || b) w.act-flag.ensures.flag ∙ stirs_more m c.args.wiring.now stepped c.args.t c.loop-no.no h _ c.loop-no.stirred gave inv.flag);
-          steps = rw add-one (w.steps-is ∙ w.act-flag.ensures.steps ∙ steps_more m c.args.wiring.now stepped c.args.t c.loop-no.no h _ c.args.steps.now c.loop-no.steps gave inv.steps);
-          noted = rw add-one (subst (Noted c.args.stepping m c.args.wiring.now c.args.t (suc c.loop-no.no) h c.args.next.now) (sym w.next-is) (noted_more c.args.stepping m g.S.Actor.valid c.args.wiring.now c.args.t c.loop-no.no h c.args.next.now c.loop-no.next w.note_next.new.next w.act-flag.new.actors w.act-flag.new.ports w.act-flag.result law wired c.requires.sound c.requires.next below due inv.noted more flags w.note_next.ensures));
-        })
-    | else-is_chosen w ↦ (
-        let due : stepped c.loop-no.no ≡ false = chosen_same c.args.stepping c.args.next.now c.loop-no.next c.args.t c.loop-no.no (sym (inv.noted.left c.loop-no.no (omega arith))) ∙ sym c.is_chosen.ensures ∙ w.if-is_chosen.false in
-        record {
-          side_places = rw add-one (side_places_is _ _ _ _ w.actors-is w.ports-is ∙ inv.side_places ∙ skip_more m c.args.wiring.now stepped c.args.t c.loop-no.no h due);
-          hand = w.hand-is ∙ inv.hand;
-          room = ap (λ (r : RecView). r.room) w.recs-is ∙ inv.room;
-          records = rw add-one (ap (λ (r : RecView). r.items) w.recs-is ∙ records_skip m c.args.wiring.now stepped c.args.t c.loop-no.no h c.args.base c.args.recs.now.items c.loop-no.recs.items due inv.records);
-          flag = rw add-one (w.stirred-is ∙ stirs_skip m c.args.wiring.now stepped c.args.t c.loop-no.no h c.loop-no.stirred due inv.flag);
-          steps = rw add-one (w.steps-is ∙ steps_skip m c.args.wiring.now stepped c.args.t c.loop-no.no h c.args.steps.now c.loop-no.steps due inv.steps);
-          noted = rw add-one (subst (Noted c.args.stepping m c.args.wiring.now c.args.t (suc c.loop-no.no) h c.args.next.now) (sym w.next-is) (noted_skip c.args.stepping m c.args.wiring.now c.args.t c.loop-no.no h c.args.next.now c.loop-no.next due inv.noted));
-        })
+      | then-is_chosen w ↦ (
+          let due : stepped c.loop-no.no ≡ true = chosen_same c.args.stepping c.args.next.now c.loop-no.next c.args.t c.loop-no.no (sym (inv.noted.left c.loop-no.no (omega arith))) ∙ sym c.is_chosen.ensures ∙ w.if-is_chosen.true in
+          let gave = outcome_more m c.args.wiring.now stepped c.args.t c.loop-no.no h (side_places c.loop-no.actors c.loop-no.ports) w.own.result.now due wired w.own.ensures inv.side_places below in
+          let law : Lawful m g.S.Actor.valid = record { framed = g.met.S.Actor.framed; stays = g.met.S.Actor.stays } in
+          let more = step_more m c.args.wiring.now stepped c.args.t c.loop-no.no h (side_places c.loop-no.actors c.loop-no.ports) (side_places w.act-flag.new.actors w.act-flag.new.ports) w.own.result.now due wired w.own.ensures inv.side_places below w.act-flag.ensures.side_places w.act-flag.ensures.same in
+          let flags : w.act-flag.result ≡ flag_of (outcome m c.args.wiring.now stepped c.args.t h c.loop-no.no) = w.act-flag.ensures.flag ∙ ap (λ o. flag_of o) gave in
+          record {
+            side_places = rw add-one (side_places_is _ _ _ _ w.actors-is w.ports-is ∙ more);
+            hand = w.hand-is ∙ w.act-flag.ensures.hand ∙ inv.hand;
+            room = ap (λ (r : RecView). r.room) (w.recs-is ∙ w.act-flag.ensures.records) ∙ ap (λ (r : RecView). r.room) w.begin.ensures ∙ inv.room;
+            records = rw add-one (ap (λ (r : RecView). r.items) (w.recs-is ∙ w.act-flag.ensures.records) ∙ ap (λ (r : RecView). r.items ++ records_at r.at r.actor (whats_of (outcome_at m w.own.result.now c.args.t (somes c.loop-no.ports) (slice_get c.loop-no.actors c.loop-no.no)))) w.begin.ensures ∙ records_more m c.args.wiring.now stepped c.args.t c.loop-no.no h c.args.base _ c.args.recs.now.items c.loop-no.recs.items gave inv.records);
+            flag = rw add-one (w.stirred-is ∙ w.either-stirred.ensures ∙ ap (λ b. c.loop-no.stirred || b) w.act-flag.ensures.flag ∙ stirs_more m c.args.wiring.now stepped c.args.t c.loop-no.no h _ c.loop-no.stirred gave inv.flag);
+            steps = rw add-one (w.steps-is ∙ w.act-flag.ensures.steps ∙ steps_more m c.args.wiring.now stepped c.args.t c.loop-no.no h _ c.args.steps.now c.loop-no.steps gave inv.steps);
+            noted = rw add-one (subst (Noted c.args.stepping m c.args.wiring.now c.args.t (suc c.loop-no.no) h c.args.next.now) (sym w.next-is) (noted_more c.args.stepping m g.S.Actor.valid c.args.wiring.now c.args.t c.loop-no.no h c.args.next.now c.loop-no.next w.note_next.new.next w.act-flag.new.actors w.act-flag.new.ports w.act-flag.result law wired c.requires.sound c.requires.next below due inv.noted more flags w.note_next.ensures));
+          })
+      | else-is_chosen w ↦ (
+          let due : stepped c.loop-no.no ≡ false = chosen_same c.args.stepping c.args.next.now c.loop-no.next c.args.t c.loop-no.no (sym (inv.noted.left c.loop-no.no (omega arith))) ∙ sym c.is_chosen.ensures ∙ w.if-is_chosen.false in
+          record {
+            side_places = rw add-one (side_places_is _ _ _ _ w.actors-is w.ports-is ∙ inv.side_places ∙ skip_more m c.args.wiring.now stepped c.args.t c.loop-no.no h due);
+            hand = w.hand-is ∙ inv.hand;
+            room = ap (λ (r : RecView). r.room) w.recs-is ∙ inv.room;
+            records = rw add-one (ap (λ (r : RecView). r.items) w.recs-is ∙ records_skip m c.args.wiring.now stepped c.args.t c.loop-no.no h c.args.base c.args.recs.now.items c.loop-no.recs.items due inv.records);
+            flag = rw add-one (w.stirred-is ∙ stirs_skip m c.args.wiring.now stepped c.args.t c.loop-no.no h c.loop-no.stirred due inv.flag);
+            steps = rw add-one (w.steps-is ∙ steps_skip m c.args.wiring.now stepped c.args.t c.loop-no.no h c.args.steps.now c.loop-no.steps due inv.steps);
+            noted = rw add-one (subst (Noted c.args.stepping m c.args.wiring.now c.args.t (suc c.loop-no.no) h c.args.next.now) (sym w.next-is) (noted_skip c.args.stepping m c.args.wiring.now c.args.t c.loop-no.no h c.args.next.now c.loop-no.next due inv.noted));
+          })
     ]
 
 pub returns-clause-side_places : goal.returns-clause-side_places

@@ -21,12 +21,12 @@ loop-port-preserved c =
     let below : n < length c.args.ports.now = omega (arith, c.loop-port-test.true, c.len-port-end.ensures) in
     let tested : c.other_face.result ≡ test n = c.other_face.ensures ∙ ap (λ x. differs (face_at c.args.faces.now n) x) c.face_in.ensures in
     elim c.if-other_face.branch [
-      then-other_face w1 ↦ (
-        let e : test n ≡ true = sym tested ∙ w1.if-other_face.true in
-        record { waked = rw add-one (subst (λ x. Waked w test edge c.args.next.now x (suc n)) (sym w1.next-is) (waked_more w (length c.args.ports.now) test edge c.args.next.now c.loop-port.next _ n c.requires.wired below (c.requires.owned n below) e (ap (λ x. slice_set c.loop-port.next w1.owner-no.result (Some x)) w1.edge.ensures ∙ ap (λ k. slice_set c.loop-port.next k (Some (edge k))) w1.owner-no.ensures) c.loop-port.invariant.waked)) })
-    | else-other_face w1 ↦ (
-        let e : test n ≡ false = sym tested ∙ w1.if-other_face.false in
-        record { waked = rw add-one (subst (λ x. Waked w test edge c.args.next.now x (suc n)) (sym w1.next-is) (waked_skip w test edge c.args.next.now c.loop-port.next n e c.loop-port.invariant.waked)) })
+      | then-other_face w1 ↦ (
+          let e : test n ≡ true = sym tested ∙ w1.if-other_face.true in
+          record { waked = rw add-one (subst (λ x. Waked w test edge c.args.next.now x (suc n)) (sym w1.next-is) (waked_more w (length c.args.ports.now) test edge c.args.next.now c.loop-port.next _ n c.requires.wired below (c.requires.owned n below) e (ap (λ x. slice_set c.loop-port.next w1.owner-no.result (Some x)) w1.edge.ensures ∙ ap (λ k. slice_set c.loop-port.next k (Some (edge k))) w1.owner-no.ensures) c.loop-port.invariant.waked)) })
+      | else-other_face w1 ↦ (
+          let e : test n ≡ false = sym tested ∙ w1.if-other_face.false in
+          record { waked = rw add-one (subst (λ x. Waked w test edge c.args.next.now x (suc n)) (sym w1.next-is) (waked_skip w test edge c.args.next.now c.loop-port.next n e c.loop-port.invariant.waked)) })
     ]
 
 pub returns : goal.returns
