@@ -1,6 +1,6 @@
 ghost use Rattle.std.specs.Prelude.{◌≡◌, ◌≤◌, OnOk, length};
 ghost use Rattle.std.specs.Result.{result_err};
-ghost use Rattle.elf_load.specs.Rules.{first_of, ident_rules, kept, size_rules};
+ghost use Rattle.elf_load.specs.Rules.{first_of, ident_rules, kept, size_rules, told};
 
 use crate::elf_header::ELF_HEADER_SIZE;
 use crate::{ElfFault, ElfRule};
@@ -18,7 +18,7 @@ const EV_CURRENT: u8 = 1;
 
 /// The fault of a rule at this byte place, unless the rule is kept.
 pub(crate) fn check(rule: ElfRule, is_kept: bool, at: u32) -> Result<(), ElfFault>
-    ensures { result_err result ≡ kept rule is_kept at }
+    ensures { result_err result ≡ told (kept rule is_kept at) }
 {
     if is_kept {
         Ok(())
@@ -29,7 +29,7 @@ pub(crate) fn check(rule: ElfRule, is_kept: bool, at: u32) -> Result<(), ElfFaul
 
 /// Whether the file is short enough, and has an ELF header.
 pub(crate) fn check_size(file: &[u8]) -> Result<(), ElfFault>
-    ensures fault { result_err result ≡ first_of (size_rules file.now) }
+    ensures fault { result_err result ≡ told (first_of (size_rules file.now)) }
     ensures short { OnOk result (length file.now ≤ LONGEST_FILE) }
     ensures room { OnOk result (ELF_HEADER_SIZE ≤ length file.now) }
 {
@@ -48,7 +48,7 @@ pub(crate) fn check_size(file: &[u8]) -> Result<(), ElfFault>
 /// Whether the file's first bytes say that this is an ELF32 file, the lowest byte of each number first.
 pub(crate) fn check_ident(file: &[u8]) -> Result<(), ElfFault>
     requires { ELF_HEADER_SIZE ≤ length file.now }
-    ensures { result_err result ≡ first_of (ident_rules file.now) }
+    ensures { result_err result ≡ told (first_of (ident_rules file.now)) }
 {
     check(ElfRule::Magic, file.starts_with(&MAGIC), 0)?;
     check(ElfRule::Class, file[4] == ELFCLASS32, 4)?;

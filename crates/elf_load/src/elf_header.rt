@@ -1,7 +1,7 @@
 ghost use Rattle.std.specs.Prelude.{◌≡◌, ◌+◌, ◌*◌, ◌<◌, ◌≤◌, OnOk, length};
 ghost use Rattle.std.specs.Result.{result_err};
 ghost use Rattle.elf_load.specs.Fields.{elf_header};
-ghost use Rattle.elf_load.specs.Rules.{first_of, header_rules};
+ghost use Rattle.elf_load.specs.Rules.{first_of, header_rules, told};
 
 use crate::check::check;
 use crate::fields::{half_at, word_at};
@@ -50,7 +50,7 @@ impl ElfHeader {
 
     /// Whether a file of this length with this header keeps the header's rules.
     pub(crate) fn check(&self, file_length: usize) -> Result<(), ElfFault>
-        ensures fault { result_err result ≡ first_of (header_rules file_length self.now) }
+        ensures fault { result_err result ≡ told (first_of (header_rules file_length self.now)) }
         ensures table { OnOk result (0 < self.now.e_phnum → self.now.e_phoff + 32 * self.now.e_phnum ≤ file_length) }
     {
         let no_table = self.e_phnum == 0;

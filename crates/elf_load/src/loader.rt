@@ -4,7 +4,7 @@ ghost use Rattle.std.specs.Result.{result_err};
 ghost use Rattle.elf_load.specs.declared.rule.ElfRule.{ElfRule};
 ghost use Rattle.elf_load.specs.Fields.{elf_header};
 ghost use Rattle.elf_load.specs.Image.{IsSound, segments_of};
-ghost use Rattle.elf_load.specs.Rules.{first_fault, first_of, header_rules, ident_rules, size_rules};
+ghost use Rattle.elf_load.specs.Rules.{first_broken, first_of, header_rules, ident_rules, size_rules, told};
 
 use crate::check::{LONGEST_FILE, check_ident, check_size};
 use crate::elf_header::ElfHeader;
@@ -15,7 +15,7 @@ use std::alloc::Global;
 
 /// The file's ELF header, or the first of the rules on the file's size and its ELF header that the file breaks.
 fn read_header(file: &[u8]) -> Result<ElfHeader, ElfFault>
-    ensures fault { result_err result ≡ first_of (size_rules file.now ++ ident_rules file.now ++ header_rules (length file.now) (elf_header file.now)) }
+    ensures fault { result_err result ≡ told (first_of (size_rules file.now ++ ident_rules file.now ++ header_rules (length file.now) (elf_header file.now))) }
     ensures header { IfOk result (λ header. header ≡ elf_header file.now) }
     ensures short { OnOk result (length file.now ≤ LONGEST_FILE) }
     ensures table { IfOk result (λ header. 0 < header.e_phnum → header.e_phoff + 32 * header.e_phnum ≤ length file.now) }
@@ -28,9 +28,9 @@ fn read_header(file: &[u8]) -> Result<ElfHeader, ElfFault>
 }
 
 /// The file's ELF header, or the first of all rules that the file breaks.
-#[tactic(auto, unfolding(crate::specs::Rules::first_fault))]
+#[tactic(auto, unfolding(crate::specs::Rules::first_broken))]
 fn check_file(file: &[u8]) -> Result<ElfHeader, ElfFault>
-    ensures fault { result_err result ≡ first_fault file.now }
+    ensures fault { result_err result ≡ told (first_broken file.now) }
     ensures header { IfOk result (λ header. header ≡ elf_header file.now) }
     ensures short { OnOk result (length file.now ≤ LONGEST_FILE) }
     ensures table { IfOk result (λ header. 0 < header.e_phnum → header.e_phoff + 32 * header.e_phnum ≤ length file.now) }
@@ -48,8 +48,9 @@ pub fn load(alloc: Global, file: Vec<u8>) -> Result<Image, ElfFault>
     ensures segments { IfOk result (λ image. image.segments ≡ segments_of file.items) }
 
     // A file is loaded only if it breaks no rule, and refused for its first broken rule exactly where it breaks one.
-    ensures accepted { OnOk result (first_fault file.items ≡ None) }
-    ensures broken { (rule : ElfRule) (at : ℕ) → IsErrOf result (ElfFault.Broken rule at) ↔ (first_fault file.items ≡ Some (ElfFault.Broken rule at)) }
+    ensures accepted { OnOk result (first_broken file.items ≡ None) }
+    ensures memory { IsErrOf result ElfFault.OutOfMemory → first_broken file.items ≡ None }
+    ensures broken { (rule : ElfRule) (at : ℕ) → IsErrOf result (ElfFault.Broken rule at) ↔ (first_broken file.items ≡ Some (rule, at)) }
 {
     let header = check_file(&file)?;
     let segments = read_table(alloc, &file, header.e_phoff, header.e_phnum)?;

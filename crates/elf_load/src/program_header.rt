@@ -2,7 +2,7 @@ ghost use Rattle.std.specs.Prelude.{◌≡◌, ◌+◌, ◌<◌, ◌≤◌, ◌^
 ghost use Rattle.std.specs.Result.{result_err};
 ghost use Rattle.elf_load.specs.Fields.{program_header};
 ghost use Rattle.elf_load.specs.Image.{is_load, segment_of};
-ghost use Rattle.elf_load.specs.Rules.{first_of, segment_rules};
+ghost use Rattle.elf_load.specs.Rules.{first_of, segment_rules, told};
 
 use crate::check::check;
 use crate::fields::word_at;
@@ -64,7 +64,7 @@ impl ProgramHeader {
     /// Whether a file of this length keeps the rules of this header.
     pub(crate) fn check(&self, file_length: usize) -> Result<(), ElfFault>
         requires { self.now.at + 32 < 2 ^ 32 }
-        ensures { result_err result ≡ first_of (segment_rules file_length self.now) }
+        ensures { result_err result ≡ told (first_of (segment_rules file_length self.now)) }
     {
         if !self.is_load() {
             return Ok(());

@@ -3,7 +3,7 @@ ghost use Rattle.std.specs.List.{All, flat_map};
 ghost use Rattle.std.specs.Result.{result_err};
 ghost use Rattle.elf_load.specs.Fields.{headers_from};
 ghost use Rattle.elf_load.specs.Image.{IsSound, loads};
-ghost use Rattle.elf_load.specs.Rules.{first_of, segment_rules};
+ghost use Rattle.elf_load.specs.Rules.{first_of, segment_rules, told};
 
 use crate::program_header::ProgramHeader;
 use crate::{ElfFault, Segments};
@@ -14,7 +14,7 @@ use std::alloc::Global;
 pub(crate) fn check_table(file: &[u8], from: u32, count: u16) -> Result<(), ElfFault>
     requires inside { 0 < count → from + 32 * count ≤ length file.now }
     requires short { length file.now < 2 ^ 32 }
-    ensures fault { result_err result ≡ first_of (flat_map (segment_rules (length file.now)) (headers_from file.now from count)) }
+    ensures fault { result_err result ≡ told (first_of (flat_map (segment_rules (length file.now)) (headers_from file.now from count))) }
     ensures sound { OnOk result (All (IsSound (length file.now)) (loads (headers_from file.now from count))) }
 {
     for index in 0..count as u32 {
