@@ -4,25 +4,24 @@ use Rattle.std.specs.Prelude.{Option, Some, None, ◌==◌, nat_le, nat_lt}
 use Rattle.std.specs.List.{flat_map, filter, All, AllByRecursion}
 use Rattle.std.proofs.lemmas.Bool.Decides.{nat_tests}
 use Rattle.std.proofs.lemmas.List.Elements.{All-from_recursion}
-use Rattle.elf_load.specs.declared.fault.ElfFault.{ElfFault}
 use Rattle.elf_load.specs.declared.rule.ElfRule.{ElfRule}
 use Rattle.elf_load.specs.declared.rule.ElfRule.TheVariants.{SegmentOutside, FileOverMemory, AddressWraps}
 use Rattle.elf_load.specs.declared.program_header.ProgramHeader.{ProgramHeader}
 use Rattle.elf_load.specs.Fields.{headers_from, program_header}
 use Rattle.elf_load.specs.Image.{is_load, loads, segment_of, IsSound}
-use Rattle.elf_load.specs.Rules.{first_of, segment_rules, kept}
+use Rattle.elf_load.specs.Rules.{Breach, first_of, segment_rules, kept}
 
 -- where nothing is told, the first rule is kept and the others tell nothing
-kept_first : (rule : ElfRule) (test : Bool) (at : ℕ) (later : List (Option (ElfRule × ℕ))) → first_of (kept rule test at ∷ later) ≡ None → (test ≡ true) × (first_of later ≡ None)
+kept_first : (rule : ElfRule) (test : Bool) (at : ℕ) (later : List (Option Breach)) → first_of (kept rule test at ∷ later) ≡ None → (test ≡ true) × (first_of later ≡ None)
 kept_first rule true at later none = (refl, none)
 kept_first rule false at later none = cc
 
-none_left : (xs ys : List (Option (ElfRule × ℕ))) → first_of (xs ++ ys) ≡ None → first_of xs ≡ None
+none_left : (xs ys : List (Option Breach)) → first_of (xs ++ ys) ≡ None → first_of xs ≡ None
 none_left [] ys none = refl
 none_left (None ∷ xs) ys none = none_left xs ys none
 none_left (Some f ∷ xs) ys none = none
 
-none_right : (xs ys : List (Option (ElfRule × ℕ))) → first_of (xs ++ ys) ≡ None → first_of ys ≡ None
+none_right : (xs ys : List (Option Breach)) → first_of (xs ++ ys) ≡ None → first_of ys ≡ None
 none_right [] ys none = none
 none_right (None ∷ xs) ys none = none_right xs ys none
 none_right (Some f ∷ xs) ys none = cc

@@ -3,12 +3,11 @@ use Rattle.std.proofs.Common.{◌≡◌, ℕ, ◌+◌, ◌-◌, ◌*◌, ◌<◌
 use Rattle.std.specs.Prelude.{Option, Some, None}
 use Rattle.std.specs.List.{flat_map, filter}
 use Rattle.elf_load.specs.declared.fault.ElfFault.{ElfFault}
-use Rattle.elf_load.specs.declared.rule.ElfRule.{ElfRule}
 use Rattle.elf_load.specs.declared.program_header.ProgramHeader.{ProgramHeader}
 use Rattle.elf_load.specs.declared.segment.Segment.{Segment}
 use Rattle.elf_load.specs.Fields.{headers_from, program_header}
 use Rattle.elf_load.specs.Image.{is_load, loads, segment_of}
-use Rattle.elf_load.specs.Rules.{first_of, segment_rules, told}
+use Rattle.elf_load.specs.Rules.{Breach, first_of, segment_rules, told}
 
 -- the headers from the i-th on are the i-th and those behind it
 headers_from-next : (file : List ℕ) (at n i : ℕ) → i < n → headers_from file (at + 32 * i) (n - i) ≡ program_header file (at + 32 * i) ∷ headers_from file (at + 32 * (i + 1)) (n - (i + 1))
@@ -19,18 +18,18 @@ headers_from-next file at n i below =
     ∙ ap (λ p. program_header file (at + 32 * i) ∷ headers_from file p (n - (i + 1))) place
 
 -- rules of which none is told are kept
-told_none : (broken : Option (ElfRule × ℕ)) → told broken ≡ None → broken ≡ None
+told_none : (broken : Option Breach) → told broken ≡ None → broken ≡ None
 told_none None none = refl
 told_none (Some broken) none = cc
 
 -- behind rules that are kept the later ones tell
-first_of-kept : (xs ys : List (Option (ElfRule × ℕ))) → told (first_of xs) ≡ None → first_of (xs ++ ys) ≡ first_of ys
+first_of-kept : (xs ys : List (Option Breach)) → told (first_of xs) ≡ None → first_of (xs ++ ys) ≡ first_of ys
 first_of-kept [] ys kept = refl
 first_of-kept (None ∷ xs) ys kept = first_of-kept xs ys kept
 first_of-kept (Some broken ∷ xs) ys kept = cc
 
 -- the first broken rule is told, whatever rules follow
-pub first_of-broken : (xs ys : List (Option (ElfRule × ℕ))) (fault : ElfFault) → told (first_of xs) ≡ Some fault → told (first_of (xs ++ ys)) ≡ Some fault
+pub first_of-broken : (xs ys : List (Option Breach)) (fault : ElfFault) → told (first_of xs) ≡ Some fault → told (first_of (xs ++ ys)) ≡ Some fault
 first_of-broken [] ys fault broken = cc
 first_of-broken (None ∷ xs) ys fault broken = first_of-broken xs ys fault broken
 first_of-broken (Some first ∷ xs) ys fault broken = broken

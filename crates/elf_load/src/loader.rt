@@ -41,7 +41,8 @@ fn check_file(file: &[u8]) -> Result<ElfHeader, ElfFault>
     Ok(header)
 }
 
-/// The program in an ELF32 file for RISC-V, or the first rule of the format that the file breaks.
+/// The program in an ELF32 file for RISC-V, or the first rule of the format that the file breaks. The file's bytes are
+/// kept and not copied, and memory for the segments is asked for only once no rule is broken.
 pub fn load(alloc: Global, file: Vec<u8>) -> Result<Image, ElfFault>
     ensures entry { IfOk result (λ image. image.entry ≡ (elf_header file.items).e_entry) }
     ensures file { IfOk result (λ image. image.file ≡ file.items) }
