@@ -1,0 +1,4 @@
+pub mod Bits
+pub mod Format
+pub mod Table
+pub mod Inst

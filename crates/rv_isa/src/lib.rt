@@ -1,0 +1,13 @@
+//! RV32I, the base instruction set of the RISC-V Instruction Set Manual, Volume I: words and the instructions that they spell, and what an instruction does to registers.
+#![tactic(auto)]
+
+mod bits;
+mod format;
+mod immediate;
+mod inst;
+mod op;
+mod op_code;
+mod row;
+
+pub use inst::Inst;
+pub use op::Op;

@@ -1,0 +1,118 @@
+ghost use Rattle.std.specs.Prelude.{◌≡◌, ◌≢◌, IfSome, IfNone};
+ghost use Rattle.rv_isa.specs.Table.{row, row_of, IsOfRow};
+ghost use Rattle.rv_isa.specs.declared.op.Op.{Op};
+
+use crate::bits::field;
+use crate::format::Format;
+use crate::op::Op;
+
+const LUI: u32 = 0b0110111;
+const AUIPC: u32 = 0b0010111;
+const JAL: u32 = 0b1101111;
+const JALR: u32 = 0b1100111;
+const BRANCH: u32 = 0b1100011;
+const LOAD: u32 = 0b0000011;
+const STORE: u32 = 0b0100011;
+const OP_IMM: u32 = 0b0010011;
+const OP: u32 = 0b0110011;
+const MISC_MEM: u32 = 0b0001111;
+const SYSTEM: u32 = 0b1110011;
+
+/// The branch with this `funct3`.
+#[tactic(auto, unfolding(crate::specs::Table::row_of))]
+pub fn branch_op(funct3: u32) -> Option<Op>
+    ensures some { IfSome result (λ op. row_of op ≡ row Format.B BRANCH funct3 0 0) }
+    ensures none { IfNone result ((op : Op) → row_of op ≢ row Format.B BRANCH funct3 0 0) }
+{
+    match funct3 {
+        0b000 => Some(Op::Beq),
+        0b001 => Some(Op::Bne),
+        0b100 => Some(Op::Blt),
+        0b101 => Some(Op::Bge),
+        0b110 => Some(Op::Bltu),
+        0b111 => Some(Op::Bgeu),
+        _ => None,
+    }
+}
+
+/// The load with this `funct3`.
+#[tactic(auto, unfolding(crate::specs::Table::row_of))]
+pub fn load_op(funct3: u32) -> Option<Op>
+    ensures some { IfSome result (λ op. row_of op ≡ row Format.I LOAD funct3 0 0) }
+    ensures none { IfNone result ((op : Op) → row_of op ≢ row Format.I LOAD funct3 0 0) }
+{
+    match funct3 {
+        0b000 => Some(Op::Lb),
+        0b001 => Some(Op::Lh),
+        0b010 => Some(Op::Lw),
+        0b100 => Some(Op::Lbu),
+        0b101 => Some(Op::Lhu),
+        _ => None,
+    }
+}
+
+/// The store with this `funct3`.
+#[tactic(auto, unfolding(crate::specs::Table::row_of))]
+pub fn store_op(funct3: u32) -> Option<Op>
+    ensures some { IfSome result (λ op. row_of op ≡ row Format.S STORE funct3 0 0) }
+    ensures none { IfNone result ((op : Op) → row_of op ≢ row Format.S STORE funct3 0 0) }
+{
+    match funct3 {
+        0b000 => Some(Op::Sb),
+        0b001 => Some(Op::Sh),
+        0b010 => Some(Op::Sw),
+        _ => None,
+    }
+}
+
+/// The instruction of a register and an immediate of 12 bits with this `funct3`.
+#[tactic(auto, unfolding(crate::specs::Table::row_of))]
+pub fn immediate_op(funct3: u32) -> Option<Op>
+    ensures some { IfSome result (λ op. row_of op ≡ row Format.I OP_IMM funct3 0 0) }
+    ensures none { IfNone result ((op : Op) → row_of op ≢ row Format.I OP_IMM funct3 0 0) }
+{
+    match funct3 {
+        0b000 => Some(Op::Addi),
+        0b010 => Some(Op::Slti),
+        0b011 => Some(Op::Sltiu),
+        0b100 => Some(Op::Xori),
+        0b110 => Some(Op::Ori),
+        0b111 => Some(Op::Andi),
+        _ => None,
+    }
+}
+
+/// The shift by an amount with this `funct3` and this `funct7`.
+#[tactic(auto, unfolding(crate::specs::Table::row_of))]
+pub fn shift_op(funct3: u32, funct7: u32) -> Option<Op>
+    ensures some { IfSome result (λ op. row_of op ≡ row Format.Shift OP_IMM funct3 funct7 0) }
+    ensures none { IfNone result ((op : Op) → row_of op ≢ row Format.Shift OP_IMM funct3 funct7 0) }
+{
+    match (funct3, funct7) {
+        (0b001, 0b0000000) => Some(Op::Slli),
+        (0b101, 0b0000000) => Some(Op::Srli),
+        (0b101, 0b0100000) => Some(Op::Srai),
+        _ => None,
+    }
+}
+
+/// The instruction of two registers with this `funct3` and this `funct7`.
+#[tactic(auto, unfolding(crate::specs::Table::row_of))]
+pub fn register_op(funct3: u32, funct7: u32) -> Option<Op>
+    ensures some { IfSome result (λ op. row_of op ≡ row Format.R OP funct3 funct7 0) }
+    ensures none { IfNone result ((op : Op) → row_of op ≢ row Format.R OP funct3 funct7 0) }
+{
+    match (funct3, funct7) {
+        (0b000, 0b0000000) => Some(Op::Add),
+        (0b000, 0b0100000) => Some(Op::Sub),
+        (0b001, 0b0000000) => Some(Op::Sll),
+        (0b010, 0b0000000) => Some(Op::Slt),
+        (0b011, 0b0000000) => Some(Op::Sltu),
+        (0b100, 0b0000000) => Some(Op::Xor),
+        (0b101, 0b0000000) => Some(Op::Srl),
+        (0b101, 0b0100000) => Some(Op::Sra),
+        (0b110, 0b0000000) => Some(Op::Or),
+        (0b111, 0b0000000) => Some(Op::And),
+        _ => None,
+    }
+}
