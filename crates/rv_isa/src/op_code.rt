@@ -1,4 +1,5 @@
 ghost use Rattle.std.specs.Prelude.{◌≡◌, ◌≢◌, IfSome, IfNone};
+ghost use Rattle.rv_isa.specs.Bits.{field};
 ghost use Rattle.rv_isa.specs.Table.{row, row_of, IsOfRow};
 ghost use Rattle.rv_isa.specs.declared.op.Op.{Op};
 
@@ -18,9 +19,33 @@ const OP: u32 = 0b0110011;
 const MISC_MEM: u32 = 0b0001111;
 const SYSTEM: u32 = 0b1110011;
 
+/// The instruction whose row the word is of, if there is one.
+pub fn op_of(word: u32) -> Option<Op>
+    ensures some { IfSome result (λ op. IsOfRow word (row_of op)) }
+    ensures none { IfNone result ((op : Op) → ¬ IsOfRow word (row_of op)) }
+{
+    let funct3 = field(word, 12, 3);
+    let funct7 = field(word, 25, 7);
+    match field(word, 0, 7) {
+        LUI => Some(Op::Lui),
+        AUIPC => Some(Op::Auipc),
+        JAL => Some(Op::Jal),
+        JALR if funct3 == 0 => Some(Op::Jalr),
+        BRANCH => branch_op(funct3),
+        LOAD => load_op(funct3),
+        STORE => store_op(funct3),
+        OP_IMM if funct3 == 0b001 || funct3 == 0b101 => shift_op(funct3, funct7),
+        OP_IMM => immediate_op(funct3),
+        OP => register_op(funct3, funct7),
+        MISC_MEM if funct3 == 0 => Some(Op::Fence),
+        SYSTEM => system_op(word),
+        _ => None,
+    }
+}
+
 /// The branch with this `funct3`.
 #[tactic(auto, unfolding(crate::specs::Table::row_of))]
-pub fn branch_op(funct3: u32) -> Option<Op>
+fn branch_op(funct3: u32) -> Option<Op>
     ensures some { IfSome result (λ op. row_of op ≡ row Format.B BRANCH funct3 0 0) }
     ensures none { IfNone result ((op : Op) → row_of op ≢ row Format.B BRANCH funct3 0 0) }
 {
@@ -37,7 +62,7 @@ pub fn branch_op(funct3: u32) -> Option<Op>
 
 /// The load with this `funct3`.
 #[tactic(auto, unfolding(crate::specs::Table::row_of))]
-pub fn load_op(funct3: u32) -> Option<Op>
+fn load_op(funct3: u32) -> Option<Op>
     ensures some { IfSome result (λ op. row_of op ≡ row Format.I LOAD funct3 0 0) }
     ensures none { IfNone result ((op : Op) → row_of op ≢ row Format.I LOAD funct3 0 0) }
 {
@@ -53,7 +78,7 @@ pub fn load_op(funct3: u32) -> Option<Op>
 
 /// The store with this `funct3`.
 #[tactic(auto, unfolding(crate::specs::Table::row_of))]
-pub fn store_op(funct3: u32) -> Option<Op>
+fn store_op(funct3: u32) -> Option<Op>
     ensures some { IfSome result (λ op. row_of op ≡ row Format.S STORE funct3 0 0) }
     ensures none { IfNone result ((op : Op) → row_of op ≢ row Format.S STORE funct3 0 0) }
 {
@@ -67,7 +92,7 @@ pub fn store_op(funct3: u32) -> Option<Op>
 
 /// The instruction of a register and an immediate of 12 bits with this `funct3`.
 #[tactic(auto, unfolding(crate::specs::Table::row_of))]
-pub fn immediate_op(funct3: u32) -> Option<Op>
+fn immediate_op(funct3: u32) -> Option<Op>
     ensures some { IfSome result (λ op. row_of op ≡ row Format.I OP_IMM funct3 0 0) }
     ensures none { IfNone result ((op : Op) → row_of op ≢ row Format.I OP_IMM funct3 0 0) }
 {
@@ -84,7 +109,7 @@ pub fn immediate_op(funct3: u32) -> Option<Op>
 
 /// The shift by an amount with this `funct3` and this `funct7`.
 #[tactic(auto, unfolding(crate::specs::Table::row_of))]
-pub fn shift_op(funct3: u32, funct7: u32) -> Option<Op>
+fn shift_op(funct3: u32, funct7: u32) -> Option<Op>
     ensures some { IfSome result (λ op. row_of op ≡ row Format.Shift OP_IMM funct3 funct7 0) }
     ensures none { IfNone result ((op : Op) → row_of op ≢ row Format.Shift OP_IMM funct3 funct7 0) }
 {
@@ -98,7 +123,7 @@ pub fn shift_op(funct3: u32, funct7: u32) -> Option<Op>
 
 /// The instruction of two registers with this `funct3` and this `funct7`.
 #[tactic(auto, unfolding(crate::specs::Table::row_of))]
-pub fn register_op(funct3: u32, funct7: u32) -> Option<Op>
+fn register_op(funct3: u32, funct7: u32) -> Option<Op>
     ensures some { IfSome result (λ op. row_of op ≡ row Format.R OP funct3 funct7 0) }
     ensures none { IfNone result ((op : Op) → row_of op ≢ row Format.R OP funct3 funct7 0) }
 {
@@ -113,6 +138,20 @@ pub fn register_op(funct3: u32, funct7: u32) -> Option<Op>
         (0b101, 0b0100000) => Some(Op::Sra),
         (0b110, 0b0000000) => Some(Op::Or),
         (0b111, 0b0000000) => Some(Op::And),
+        _ => None,
+    }
+}
+
+/// ECALL or EBREAK, where the word is that one.
+#[tactic(auto, unfolding(crate::specs::Table::row_of))]
+fn system_op(word: u32) -> Option<Op>
+    requires { field 0 7 word ≡ SYSTEM }
+    ensures some { IfSome result (λ op. IsOfRow word (row_of op)) }
+    ensures none { IfNone result ((op : Op) → ¬ IsOfRow word (row_of op)) }
+{
+    match word {
+        0x0000_0073 => Some(Op::Ecall),
+        0x0010_0073 => Some(Op::Ebreak),
         _ => None,
     }
 }
