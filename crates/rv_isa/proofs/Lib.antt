@@ -1,3 +1,4 @@
 pub mod BitsLemmas
 pub mod TableLemmas
 pub mod RowLemmas
+pub mod InstLemmas

@@ -65,25 +65,29 @@ all_at p (x ∷ xs) (suc k) op at h = all_at p xs k op at (grind (arith, nat_tes
 pub every : (p : Op → Bool) → list_all p ops ≡ true → (op : Op) → p op ≡ true
 every p h op = all_at p ops (placed op).0 op (placed op).1 h
 
--- whether a test of rows passes at each row of an opcode
-abbrev pub all_of_opcode : ℕ → (Row → Bool) → Bool
-all_of_opcode opcode p = list_all (λ op. not ((row_of op).opcode == opcode) || p (row_of op)) ops
+-- whether the words of two rows are apart: both rows fix some field, and to other bits
+abbrev pub are_apart : Row → Row → Bool
+are_apart r s =
+  not (r.opcode == s.opcode)
+  || (has_funct3 r.format && has_funct3 s.format && not (r.funct3 == s.funct3))
+  || (has_funct7 r.format && has_funct7 s.format && not (r.funct7 == s.funct7))
+  || (has_funct12 r.format && has_funct12 s.format && not (r.funct12 == s.funct12))
 
-under : (a b : ℕ) (c : Bool) → (not (a == b) || c) ≡ true → a ≡ b → c ≡ true
-under a b c h e = grind (arith, nat_tests)
+-- the table, tried: two rows are apart, or they are one
+all_apart : list_all (λ a. list_all (λ b. are_apart (row_of a) (row_of b) || (placed a).0 == (placed b).0) ops) ops ≡ true
+unfolding row_of placed
+all_apart = refl
 
--- what passes at each row of an opcode passes at one of them
-pub at_opcode : (opcode : ℕ) (p : Row → Bool) → all_of_opcode opcode p ≡ true → (op : Op) → (row_of op).opcode ≡ opcode → p (row_of op) ≡ true
-at_opcode opcode p h op e = under (row_of op).opcode opcode (p (row_of op)) (every (λ o. not ((row_of o).opcode == opcode) || p (row_of o)) h op) e
+not_apart : (word : ℕ) (r s : Row) → IsOfRow word r → IsOfRow word s → are_apart r s ≡ true → ⊥
+not_apart word r s a b h = grind (arith, nat_tests, a.opcode, b.opcode, a.funct3, b.funct3, a.funct7, b.funct7, a.funct12, b.funct12)
 
--- what the rows of each opcode have
+one_of : (b : Bool) (m n : ℕ) → (b || m == n) ≡ true → (b ≡ true → ⊥) → m ≡ n
+one_of b m n h never = grind (arith, nat_tests)
 
-abbrev pub has_branch_fields : Row → Bool
-has_branch_fields r = has_funct3 r.format && (r.funct3 == 0 || r.funct3 == 1 || nat_le 4 r.funct3)
-
-branch_test : all_of_opcode 0b1100011 has_branch_fields ≡ true
-unfolding row_of
-branch_test = refl
-
-pub branch_rows : (op : Op) → (row_of op).opcode ≡ 0b1100011 → has_branch_fields (row_of op) ≡ true
-branch_rows op e = at_opcode 0b1100011 has_branch_fields branch_test op e
+-- a word is of one row at most
+pub IsOfRow-one : (word : ℕ) (a b : Op) → IsOfRow word (row_of a) → IsOfRow word (row_of b) → a ≡ b
+IsOfRow-one word a b p q =
+  let tried = every (λ y. are_apart (row_of a) (row_of y) || (placed a).0 == (placed y).0) (every (λ x. list_all (λ y. are_apart (row_of x) (row_of y) || (placed x).0 == (placed y).0) ops) all_apart a) b in
+  let e : (placed a).0 ≡ (placed b).0 = one_of (are_apart (row_of a) (row_of b)) (placed a).0 (placed b).0 tried (not_apart word (row_of a) (row_of b) p q) in
+  let same : Some a ≡ Some b = sym (placed a).1 ∙ ap (slice_get ops) e ∙ (placed b).1 in
+  cc

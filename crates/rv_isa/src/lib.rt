@@ -2,6 +2,7 @@
 #![tactic(auto)]
 
 mod bits;
+mod decoding;
 mod format;
 mod immediate;
 mod inst;
@@ -9,5 +10,6 @@ mod op;
 mod op_code;
 mod row;
 
+pub use decoding::{Illegal, decode};
 pub use inst::Inst;
 pub use op::Op;
