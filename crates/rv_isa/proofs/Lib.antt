@@ -2,3 +2,4 @@ pub mod BitsLemmas
 pub mod TableLemmas
 pub mod RowLemmas
 pub mod InstLemmas
+pub mod ImmediateLemmas
