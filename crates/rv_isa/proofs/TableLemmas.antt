@@ -1,9 +1,10 @@
 -- The table's rows, tried one by one by computing, and what follows for each row.
-use Rattle.std.proofs.Common.{◌≡◌, ℕ, zero, suc, Bool, true, false, not, ◌&&◌, ◌||◌, ◌==◌, nat_le, nat_lt, IsTrue, List, [], ◌∷◌, Option, Some, None, slice_get, refl, sym, ◌∙◌, ap, arith}
+use Rattle.std.proofs.Common.{◌≡◌, ◌<◌, ◌^◌, ℕ, zero, suc, Bool, true, false, not, ◌&&◌, ◌||◌, ◌==◌, nat_le, nat_lt, IsTrue, List, [], ◌∷◌, Option, Some, None, slice_get, refl, sym, ◌∙◌, ap, arith}
 use Rattle.std.proofs.lemmas.Bool.Decides.{nat_tests}
 use Rattle.std.specs.List.{list_all}
 use Rattle.rv_isa.specs.declared.op.Op.{Op}
 use Rattle.rv_isa.specs.declared.op.Op.TheVariants.{Lui, Auipc, Jal, Jalr, Beq, Bne, Blt, Bge, Bltu, Bgeu, Lb, Lh, Lw, Lbu, Lhu, Sb, Sh, Sw, Addi, Slti, Sltiu, Xori, Ori, Andi, Slli, Srli, Srai, Add, Sub, Sll, Slt, Sltu, Xor, Srl, Sra, Or, And, Fence, Ecall, Ebreak}
+use Rattle.rv_isa.specs.declared.format.Format.TheVariants.{R, I, Shift, S, B, U, J, Fence as FenceFormat, System}
 use Rattle.rv_isa.specs.declared.row.Row.{Row}
 use Rattle.rv_isa.specs.Bits.{field}
 use Rattle.rv_isa.specs.Table.{row_of, has_funct3, has_funct7, has_funct12, IsOfRow}
@@ -68,10 +69,10 @@ every p h op = all_at p ops (placed op).0 op (placed op).1 h
 -- whether the words of two rows are apart: both rows fix some field, and to other bits
 abbrev pub are_apart : Row → Row → Bool
 are_apart r s =
-  not (r.opcode == s.opcode)
-  || (has_funct3 r.format && has_funct3 s.format && not (r.funct3 == s.funct3))
-  || (has_funct7 r.format && has_funct7 s.format && not (r.funct7 == s.funct7))
-  || (has_funct12 r.format && has_funct12 s.format && not (r.funct12 == s.funct12))
+    not (r.opcode == s.opcode)
+    || (has_funct3 r.format && has_funct3 s.format && not (r.funct3 == s.funct3))
+    || (has_funct7 r.format && has_funct7 s.format && not (r.funct7 == s.funct7))
+    || (has_funct12 r.format && has_funct12 s.format && not (r.funct12 == s.funct12))
 
 -- the table, tried: two rows are apart, or they are one
 all_apart : list_all (λ a. list_all (λ b. are_apart (row_of a) (row_of b) || (placed a).0 == (placed b).0) ops) ops ≡ true
@@ -87,7 +88,22 @@ one_of b m n h never = grind (arith, nat_tests)
 -- a word is of one row at most
 pub IsOfRow-one : (word : ℕ) (a b : Op) → IsOfRow word (row_of a) → IsOfRow word (row_of b) → a ≡ b
 IsOfRow-one word a b p q =
-  let tried = every (λ y. are_apart (row_of a) (row_of y) || (placed a).0 == (placed y).0) (every (λ x. list_all (λ y. are_apart (row_of x) (row_of y) || (placed x).0 == (placed y).0) ops) all_apart a) b in
-  let e : (placed a).0 ≡ (placed b).0 = one_of (are_apart (row_of a) (row_of b)) (placed a).0 (placed b).0 tried (not_apart word (row_of a) (row_of b) p q) in
-  let same : Some a ≡ Some b = sym (placed a).1 ∙ ap (slice_get ops) e ∙ (placed b).1 in
-  cc
+    let tried = every (λ y. are_apart (row_of a) (row_of y) || (placed a).0 == (placed y).0) (every (λ x. list_all (λ y. are_apart (row_of x) (row_of y) || (placed x).0 == (placed y).0) ops) all_apart a) b in
+    let e : (placed a).0 ≡ (placed b).0 = one_of (are_apart (row_of a) (row_of b)) (placed a).0 (placed b).0 tried (not_apart word (row_of a) (row_of b) p q) in
+    let same : Some a ≡ Some b = sym (placed a).1 ∙ ap (slice_get ops) e ∙ (placed b).1 in
+    cc
+
+-- each row's fields fit
+pub row_bounds : (op : Op) → ((row_of op).opcode < 2 ^ 7) × ((row_of op).funct3 < 2 ^ 3) × ((row_of op).funct7 < 2 ^ 7) × ((row_of op).funct12 < 2 ^ 5)
+unfolding row_of
+row_bounds op = grind arith
+
+-- ECALL and EBREAK have no `funct7`
+pub system_funct7 : (op : Op) → (row_of op).format ≡ System → (row_of op).funct7 ≡ 0
+unfolding row_of
+system_funct7 op e = grind arith
+
+-- the row of FENCE
+pub fence_row : (op : Op) → op ≡ Fence → ((row_of op).format ≡ FenceFormat) × ((row_of op).opcode ≡ 15) × ((row_of op).funct3 ≡ 0) × ((row_of op).funct7 ≡ 0)
+unfolding row_of
+fence_row op e = grind arith

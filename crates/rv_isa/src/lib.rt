@@ -3,6 +3,8 @@
 
 mod bits;
 mod decoding;
+mod encoding;
+mod fields;
 mod format;
 mod immediate;
 mod inst;
@@ -11,5 +13,6 @@ mod op_code;
 mod row;
 
 pub use decoding::{Illegal, decode};
+pub use encoding::encode;
 pub use inst::Inst;
 pub use op::Op;
