@@ -2,4 +2,3 @@ pub mod BitsLemmas
 pub mod TableLemmas
 pub mod RowLemmas
 pub mod InstLemmas
-pub mod ImmediateLemmas

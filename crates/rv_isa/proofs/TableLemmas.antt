@@ -107,3 +107,8 @@ system_funct7 op e = grind arith
 pub fence_row : (op : Op) → op ≡ Fence → ((row_of op).format ≡ FenceFormat) × ((row_of op).opcode ≡ 15) × ((row_of op).funct3 ≡ 0) × ((row_of op).funct7 ≡ 0)
 unfolding row_of
 fence_row op e = grind arith
+
+-- no other instruction has the format of FENCE
+pub only_fence : (op : Op) → (op ≡ Fence → ⊥) → (row_of op).format ≡ FenceFormat → ⊥
+unfolding row_of
+only_fence op other e = grind arith
