@@ -3,16 +3,22 @@
 
 mod bits;
 mod decoding;
+mod effect;
 mod encoding;
+mod execution;
 mod fields;
 mod format;
 mod immediate;
 mod inst;
 mod op;
 mod op_code;
+mod regs;
 mod row;
 
 pub use decoding::{Illegal, decode};
+pub use effect::Effect;
 pub use encoding::encode;
+pub use execution::exec;
 pub use inst::Inst;
 pub use op::Op;
+pub use regs::Regs;
