@@ -2,7 +2,11 @@
 #[derive(Clone, Copy, Debug, PartialEq, Eq)]
 pub enum Effect {
     /// Writes `value` to the register `rd` and goes to the address `next`.
-    Go { rd: u8, value: u32, next: u32 },
+    Go {
+        rd: u8,
+        value: u32,
+        next: u32,
+    },
     /// Reads 1, 2 or 4 bytes at `addr` into the register `rd`, with the sign extended or with zeros above.
     Load {
         rd: u8,
@@ -11,7 +15,11 @@ pub enum Effect {
         addr: u32,
     },
     /// Writes the low 1, 2 or 4 bytes of a register, which are `value`, at `addr`.
-    Store { bytes: u8, addr: u32, value: u32 },
+    Store {
+        bytes: u8,
+        addr: u32,
+        value: u32,
+    },
     /// FENCE.
     Fence,
     /// ECALL.

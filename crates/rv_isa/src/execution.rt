@@ -1,5 +1,5 @@
-ghost use Rattle.std.specs.Prelude.{◌≡◌, ◌-◌, ◌%◌, ◌<◌};
-ghost use Rattle.rv_isa.specs.Effect.{effect, effect_of, jump, branch, store, write, even_below, is_less_signed, one_if, shifted_left, shifted_right, shifted_right_signed, NamesRegister};
+ghost use Rattle.std.specs.Prelude.{◌≡◌};
+ghost use Rattle.rv_isa.specs.Effect.{effect_of, jump, branch, write, is_less_signed, shifted_right_signed, NamesRegister};
 
 use crate::effect::Effect;
 use crate::inst::Inst;
@@ -27,14 +27,14 @@ pub fn exec(regs: &Regs, pc: u32, inst: Inst) -> Effect
         Op::Bge => branch(pc, imm, !is_less_signed(a, b)),
         Op::Bltu => branch(pc, imm, a < b),
         Op::Bgeu => branch(pc, imm, a >= b),
-        Op::Lb => Effect::Load { rd, bytes: 1, signed: true, addr },
-        Op::Lh => Effect::Load { rd, bytes: 2, signed: true, addr },
-        Op::Lw => Effect::Load { rd, bytes: 4, signed: false, addr },
-        Op::Lbu => Effect::Load { rd, bytes: 1, signed: false, addr },
-        Op::Lhu => Effect::Load { rd, bytes: 2, signed: false, addr },
-        Op::Sb => Effect::Store { bytes: 1, addr, value: b & 0xff },
-        Op::Sh => Effect::Store { bytes: 2, addr, value: b & 0xffff },
-        Op::Sw => Effect::Store { bytes: 4, addr, value: b },
+        Op::Lb => load(rd, 1, true, addr),
+        Op::Lh => load(rd, 2, true, addr),
+        Op::Lw => load(rd, 4, false, addr),
+        Op::Lbu => load(rd, 1, false, addr),
+        Op::Lhu => load(rd, 2, false, addr),
+        Op::Sb => store(1, addr, b & 0xff),
+        Op::Sh => store(2, addr, b & 0xffff),
+        Op::Sw => store(4, addr, b),
         Op::Addi => write(pc, rd, addr),
         Op::Slti => write(pc, rd, u32::from(is_less_signed(a, imm))),
         Op::Sltiu => write(pc, rd, u32::from(a < imm)),
@@ -95,6 +95,25 @@ fn branch(pc: u32, imm: u32, taken: bool) -> Effect
     } else {
         write(pc, 0, 0)
     }
+}
+
+/// Reads `bytes` bytes into a register.
+fn load(rd: u8, bytes: u8, signed: bool, addr: u32) -> Effect
+    ensures { result ≡ Effect.Load rd bytes signed addr }
+{
+    Effect::Load {
+        rd,
+        bytes,
+        signed,
+        addr,
+    }
+}
+
+/// Writes the low bytes of a register.
+fn store(bytes: u8, addr: u32, value: u32) -> Effect
+    ensures { result ≡ Effect.Store bytes addr value }
+{
+    Effect::Store { bytes, addr, value }
 }
 
 /// Whether a number is below another, as two's complement numbers.
