@@ -1,4 +1,4 @@
 pub mod BitsLemmas
-pub mod TableLemmas
-pub mod RowLemmas
 pub mod InstLemmas
+pub mod RowLemmas
+pub mod TableLemmas

@@ -1,7 +1,8 @@
--- What the instructions do: "Integer Computational Instructions", "Control Transfer Instructions" and "Load and Store Instructions" of the chapter "RV32I Base Integer Instruction Set".
-use Rattle.std.specs.Prelude.{◌≡◌, ℕ, ◌+◌, ◌-◌, ◌*◌, ◌/◌, ◌%◌, ◌^◌, ◌<◌, ◌==◌, nat_lt, not, cond, Bool, true, false, List, slice_index, bit_and, bit_or, bit_xor, int_lt}
+-- What the instructions do: "Integer Computational Instructions" (2.4), "Control Transfer Instructions" (2.5) and "Load and Store Instructions" (2.6) of the chapter "RV32I Base Integer Instruction Set".
+use Rattle.std.specs.Prelude.{◌≡◌, ℕ, ◌+◌, ◌-◌, ◌*◌, ◌/◌, ◌%◌, ◌^◌, ◌<◌, ◌==◌, nat_lt, not, cond, Bool, true, false, List, bit_and, bit_or, bit_xor, int_lt}
 use Rattle.std.specs.Int.{w32, cast_signed, cast_unsigned}
 use Rattle.std.specs.Int.Signed.{shr_z}
+use Rattle.rv_isa.specs.Regs.{register}
 use Rattle.rv_isa.specs.declared.op.Op.{Op}
 use Rattle.rv_isa.specs.declared.op.Op.TheVariants.{Lui, Auipc, Jal, Jalr, Beq, Bne, Blt, Bge, Bltu, Bgeu, Lb, Lh, Lw, Lbu, Lhu, Sb, Sh, Sw, Addi, Slti, Sltiu, Xori, Ori, Andi, Slli, Srli, Srai, Add, Sub, Sll, Slt, Sltu, Xor, Srl, Sra, Or, And, Fence, Ecall, Ebreak}
 use Rattle.rv_isa.specs.declared.inst.Inst.{Inst}
@@ -55,52 +56,52 @@ branch pc imm taken = cond taken (jump 0 0 (wrapped (pc + imm))) (write pc 0 0)
 abbrev pub store : ℕ → ℕ → ℕ → Effect
 store bytes addr value = Store bytes addr (value % 2 ^ (8 * bytes))
 
--- the effect of an instruction at `pc` with the immediate `imm`, where rs1 holds `a` and rs2 holds `b`
+-- the effect of an instruction at `pc` with the immediate `imm`, where rs1 holds `first` and rs2 holds `second`
 unfoldable pub effect : Op → ℕ → ℕ → ℕ → ℕ → ℕ → Effect
-effect Lui pc rd a b imm = write pc rd imm
-effect Auipc pc rd a b imm = write pc rd (wrapped (pc + imm))
-effect Jal pc rd a b imm = jump rd (wrapped (pc + 4)) (wrapped (pc + imm))
-effect Jalr pc rd a b imm = jump rd (wrapped (pc + 4)) (even_below (wrapped (a + imm)))
-effect Beq pc rd a b imm = branch pc imm (a == b)
-effect Bne pc rd a b imm = branch pc imm (not (a == b))
-effect Blt pc rd a b imm = branch pc imm (is_less_signed a b)
-effect Bge pc rd a b imm = branch pc imm (not (is_less_signed a b))
-effect Bltu pc rd a b imm = branch pc imm (nat_lt a b)
-effect Bgeu pc rd a b imm = branch pc imm (not (nat_lt a b))
-effect Lb pc rd a b imm = Load rd 1 true (wrapped (a + imm))
-effect Lh pc rd a b imm = Load rd 2 true (wrapped (a + imm))
-effect Lw pc rd a b imm = Load rd 4 false (wrapped (a + imm))
-effect Lbu pc rd a b imm = Load rd 1 false (wrapped (a + imm))
-effect Lhu pc rd a b imm = Load rd 2 false (wrapped (a + imm))
-effect Sb pc rd a b imm = store 1 (wrapped (a + imm)) b
-effect Sh pc rd a b imm = store 2 (wrapped (a + imm)) b
-effect Sw pc rd a b imm = store 4 (wrapped (a + imm)) b
-effect Addi pc rd a b imm = write pc rd (wrapped (a + imm))
-effect Slti pc rd a b imm = write pc rd (one_if (is_less_signed a imm))
-effect Sltiu pc rd a b imm = write pc rd (one_if (nat_lt a imm))
-effect Xori pc rd a b imm = write pc rd (bit_xor a imm)
-effect Ori pc rd a b imm = write pc rd (bit_or a imm)
-effect Andi pc rd a b imm = write pc rd (bit_and a imm)
-effect Slli pc rd a b imm = write pc rd (shifted_left a imm)
-effect Srli pc rd a b imm = write pc rd (shifted_right a imm)
-effect Srai pc rd a b imm = write pc rd (shifted_right_signed a imm)
-effect Add pc rd a b imm = write pc rd (wrapped (a + b))
-effect Sub pc rd a b imm = write pc rd (difference a b)
-effect Sll pc rd a b imm = write pc rd (shifted_left a b)
-effect Slt pc rd a b imm = write pc rd (one_if (is_less_signed a b))
-effect Sltu pc rd a b imm = write pc rd (one_if (nat_lt a b))
-effect Xor pc rd a b imm = write pc rd (bit_xor a b)
-effect Srl pc rd a b imm = write pc rd (shifted_right a b)
-effect Sra pc rd a b imm = write pc rd (shifted_right_signed a b)
-effect Or pc rd a b imm = write pc rd (bit_or a b)
-effect And pc rd a b imm = write pc rd (bit_and a b)
-effect Fence pc rd a b imm = FenceEffect
-effect Ecall pc rd a b imm = Call
-effect Ebreak pc rd a b imm = Break
+effect Lui pc rd first second imm = write pc rd imm
+effect Auipc pc rd first second imm = write pc rd (wrapped (pc + imm))
+effect Jal pc rd first second imm = jump rd (wrapped (pc + 4)) (wrapped (pc + imm))
+effect Jalr pc rd first second imm = jump rd (wrapped (pc + 4)) (even_below (wrapped (first + imm)))
+effect Beq pc rd first second imm = branch pc imm (first == second)
+effect Bne pc rd first second imm = branch pc imm (not (first == second))
+effect Blt pc rd first second imm = branch pc imm (is_less_signed first second)
+effect Bge pc rd first second imm = branch pc imm (not (is_less_signed first second))
+effect Bltu pc rd first second imm = branch pc imm (nat_lt first second)
+effect Bgeu pc rd first second imm = branch pc imm (not (nat_lt first second))
+effect Lb pc rd first second imm = Load rd 1 true (wrapped (first + imm))
+effect Lh pc rd first second imm = Load rd 2 true (wrapped (first + imm))
+effect Lw pc rd first second imm = Load rd 4 false (wrapped (first + imm))
+effect Lbu pc rd first second imm = Load rd 1 false (wrapped (first + imm))
+effect Lhu pc rd first second imm = Load rd 2 false (wrapped (first + imm))
+effect Sb pc rd first second imm = store 1 (wrapped (first + imm)) second
+effect Sh pc rd first second imm = store 2 (wrapped (first + imm)) second
+effect Sw pc rd first second imm = store 4 (wrapped (first + imm)) second
+effect Addi pc rd first second imm = write pc rd (wrapped (first + imm))
+effect Slti pc rd first second imm = write pc rd (one_if (is_less_signed first imm))
+effect Sltiu pc rd first second imm = write pc rd (one_if (nat_lt first imm))
+effect Xori pc rd first second imm = write pc rd (bit_xor first imm)
+effect Ori pc rd first second imm = write pc rd (bit_or first imm)
+effect Andi pc rd first second imm = write pc rd (bit_and first imm)
+effect Slli pc rd first second imm = write pc rd (shifted_left first imm)
+effect Srli pc rd first second imm = write pc rd (shifted_right first imm)
+effect Srai pc rd first second imm = write pc rd (shifted_right_signed first imm)
+effect Add pc rd first second imm = write pc rd (wrapped (first + second))
+effect Sub pc rd first second imm = write pc rd (difference first second)
+effect Sll pc rd first second imm = write pc rd (shifted_left first second)
+effect Slt pc rd first second imm = write pc rd (one_if (is_less_signed first second))
+effect Sltu pc rd first second imm = write pc rd (one_if (nat_lt first second))
+effect Xor pc rd first second imm = write pc rd (bit_xor first second)
+effect Srl pc rd first second imm = write pc rd (shifted_right first second)
+effect Sra pc rd first second imm = write pc rd (shifted_right_signed first second)
+effect Or pc rd first second imm = write pc rd (bit_or first second)
+effect And pc rd first second imm = write pc rd (bit_and first second)
+effect Fence pc rd first second imm = FenceEffect
+effect Ecall pc rd first second imm = Call
+effect Ebreak pc rd first second imm = Break
 
 -- the effect of an instruction at `pc` on these registers
 abbrev pub effect_of : List ℕ → ℕ → Inst → Effect
-effect_of regs pc inst = effect inst.op pc inst.rd (slice_index regs inst.rs1) (slice_index regs inst.rs2) inst.imm
+effect_of regs pc inst = effect inst.op pc inst.rd (register regs inst.rs1) (register regs inst.rs2) inst.imm
 
 -- a register that is to be written is one of the 32
 abbrev pub NamesRegister : Effect → Type 0

@@ -1,4 +1,4 @@
--- The formats of instructions: "Base Instruction Formats" and "Immediate Encoding Variants" of the chapter "RV32I Base Integer Instruction Set".
+-- The formats of instructions: "Base Instruction Formats" (2.2) and "Immediate Encoding Variants" (2.3) of the chapter "RV32I Base Integer Instruction Set".
 use Rattle.std.specs.Prelude.{ℕ, ◌+◌, ◌-◌, ◌*◌, ◌%◌, ◌^◌, ◌==◌, ◌&&◌, ◌||◌, nat_lt, nat_le, Bool, true, false, cond}
 use Rattle.rv_isa.specs.declared.format.Format.{Format}
 use Rattle.rv_isa.specs.declared.format.Format.TheVariants.{R, I, Shift, S, B, U, J, Fence, System}

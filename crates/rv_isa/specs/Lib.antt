@@ -1,5 +1,6 @@
 pub mod Bits
-pub mod Format
-pub mod Table
-pub mod Inst
 pub mod Effect
+pub mod Format
+pub mod Inst
+pub mod Regs
+pub mod Table

@@ -39,3 +39,6 @@ pub fn encode(inst: Inst) -> u32
         .word(),
     }
 }
+
+#[cfg(test)]
+mod tests;

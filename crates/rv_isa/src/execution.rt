@@ -13,47 +13,47 @@ pub fn exec(regs: &Regs, pc: u32, inst: Inst) -> Effect
     ensures register { NamesRegister result }
 {
     let Inst { op, rd, imm, .. } = inst;
-    let a = regs.get(inst.rs1);
-    let b = regs.get(inst.rs2);
-    let addr = a.wrapping_add(imm);
+    let first = regs.get(inst.rs1);
+    let second = regs.get(inst.rs2);
+    let addr = first.wrapping_add(imm);
     match op {
         Op::Lui => write(pc, rd, imm),
         Op::Auipc => write(pc, rd, pc.wrapping_add(imm)),
         Op::Jal => jump(rd, pc.wrapping_add(4), pc.wrapping_add(imm)),
         Op::Jalr => jump(rd, pc.wrapping_add(4), addr & !1),
-        Op::Beq => branch(pc, imm, a == b),
-        Op::Bne => branch(pc, imm, a != b),
-        Op::Blt => branch(pc, imm, is_less_signed(a, b)),
-        Op::Bge => branch(pc, imm, !is_less_signed(a, b)),
-        Op::Bltu => branch(pc, imm, a < b),
-        Op::Bgeu => branch(pc, imm, a >= b),
+        Op::Beq => branch(pc, imm, first == second),
+        Op::Bne => branch(pc, imm, first != second),
+        Op::Blt => branch(pc, imm, is_less_signed(first, second)),
+        Op::Bge => branch(pc, imm, !is_less_signed(first, second)),
+        Op::Bltu => branch(pc, imm, first < second),
+        Op::Bgeu => branch(pc, imm, first >= second),
         Op::Lb => load(rd, 1, true, addr),
         Op::Lh => load(rd, 2, true, addr),
         Op::Lw => load(rd, 4, false, addr),
         Op::Lbu => load(rd, 1, false, addr),
         Op::Lhu => load(rd, 2, false, addr),
-        Op::Sb => store(1, addr, b & 0xff),
-        Op::Sh => store(2, addr, b & 0xffff),
-        Op::Sw => store(4, addr, b),
+        Op::Sb => store(1, addr, second & 0xff),
+        Op::Sh => store(2, addr, second & 0xffff),
+        Op::Sw => store(4, addr, second),
         Op::Addi => write(pc, rd, addr),
-        Op::Slti => write(pc, rd, u32::from(is_less_signed(a, imm))),
-        Op::Sltiu => write(pc, rd, u32::from(a < imm)),
-        Op::Xori => write(pc, rd, a ^ imm),
-        Op::Ori => write(pc, rd, a | imm),
-        Op::Andi => write(pc, rd, a & imm),
-        Op::Slli => write(pc, rd, a.wrapping_shl(imm)),
-        Op::Srli => write(pc, rd, a.wrapping_shr(imm)),
-        Op::Srai => write(pc, rd, shifted_right_signed(a, imm)),
-        Op::Add => write(pc, rd, a.wrapping_add(b)),
-        Op::Sub => write(pc, rd, a.wrapping_sub(b)),
-        Op::Sll => write(pc, rd, a.wrapping_shl(b)),
-        Op::Slt => write(pc, rd, u32::from(is_less_signed(a, b))),
-        Op::Sltu => write(pc, rd, u32::from(a < b)),
-        Op::Xor => write(pc, rd, a ^ b),
-        Op::Srl => write(pc, rd, a.wrapping_shr(b)),
-        Op::Sra => write(pc, rd, shifted_right_signed(a, b)),
-        Op::Or => write(pc, rd, a | b),
-        Op::And => write(pc, rd, a & b),
+        Op::Slti => write(pc, rd, u32::from(is_less_signed(first, imm))),
+        Op::Sltiu => write(pc, rd, u32::from(first < imm)),
+        Op::Xori => write(pc, rd, first ^ imm),
+        Op::Ori => write(pc, rd, first | imm),
+        Op::Andi => write(pc, rd, first & imm),
+        Op::Slli => write(pc, rd, first.wrapping_shl(imm)),
+        Op::Srli => write(pc, rd, first.wrapping_shr(imm)),
+        Op::Srai => write(pc, rd, shifted_right_signed(first, imm)),
+        Op::Add => write(pc, rd, first.wrapping_add(second)),
+        Op::Sub => write(pc, rd, first.wrapping_sub(second)),
+        Op::Sll => write(pc, rd, first.wrapping_shl(second)),
+        Op::Slt => write(pc, rd, u32::from(is_less_signed(first, second))),
+        Op::Sltu => write(pc, rd, u32::from(first < second)),
+        Op::Xor => write(pc, rd, first ^ second),
+        Op::Srl => write(pc, rd, first.wrapping_shr(second)),
+        Op::Sra => write(pc, rd, shifted_right_signed(first, second)),
+        Op::Or => write(pc, rd, first | second),
+        Op::And => write(pc, rd, first & second),
         Op::Fence => Effect::Fence,
         Op::Ecall => Effect::Call,
         Op::Ebreak => Effect::Break,
@@ -129,3 +129,6 @@ fn shifted_right_signed(a: u32, n: u32) -> u32
 {
     (a.cast_signed() >> (n % 32)).cast_unsigned()
 }
+
+#[cfg(test)]
+mod tests;

@@ -1,4 +1,5 @@
-ghost use Rattle.std.specs.Prelude.{◌≡◌, ◌≢◌, ◌<◌, slice_index, slice_set, replicate};
+ghost use Rattle.std.specs.Prelude.{◌≡◌, ◌<◌, replicate};
+ghost use Rattle.rv_isa.specs.Regs.{register, written};
 
 use std::marker::Model;
 
@@ -28,20 +29,18 @@ impl Regs {
         Regs { values: [0; 32] }
     }
 
-    /// What a register holds.
+    /// What a register holds. Register 0 reads 0.
     pub fn get(&self, r: u8) -> u32
         requires { r < 32 }
-        ensures value { result ≡ slice_index self.now r }
-        ensures zero { r ≡ 0 → result ≡ 0 }
+        ensures { result ≡ register self.now r }
     {
         self.values[r as usize]
     }
 
-    /// Writes a register. Register 0 stays 0.
+    /// Writes a register. Where that is register 0, nothing changes.
     pub fn set(&mut self, r: u8, value: u32)
         requires { r < 32 }
-        ensures written { r ≢ 0 → self.new ≡ slice_set self.old r value }
-        ensures zero { r ≡ 0 → self.new ≡ self.old }
+        ensures { self.new ≡ written self.old r value }
     {
         if r != 0 {
             self.values[r as usize] = value;
