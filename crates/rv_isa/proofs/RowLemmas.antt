@@ -1,8 +1,7 @@
 -- When a word is of a row, by the row's opcode.
-use Rattle.std.proofs.Common.{◌≡◌, ◌≢◌, ℕ, Bool, true, false, IsTrue, IfNone, Option, Some, None, ◌⊎◌, refl, sym, ◌∙◌, ap, subst, arith}
+use Rattle.std.proofs.Common.{◌≡◌, ◌≢◌, ℕ, Bool, true, false, IsTrue, IfNone, Option, Some, None, ◌⊎◌, sym, ◌∙◌, ap, subst, arith}
 use Rattle.rv_isa.specs.declared.op.Op.{Op}
-use Rattle.rv_isa.specs.declared.format.Format.{Format}
-use Rattle.rv_isa.specs.declared.format.Format.TheVariants.{R, I, Shift, S, B, U, J, Fence, System}
+use Rattle.rv_isa.specs.declared.format.Format.TheVariants.{R, I, Shift, S, B}
 use Rattle.rv_isa.specs.declared.row.Row.{Row}
 use Rattle.rv_isa.specs.Bits.{field}
 use Rattle.rv_isa.specs.Table.{row, row_of, has_funct3, has_funct7, has_funct12, IsOfRow}

@@ -1,12 +1,11 @@
 -- The table's rows, tried one by one by computing, and what follows for each row.
-use Rattle.std.proofs.Common.{◌≡◌, ◌<◌, ◌^◌, ℕ, zero, suc, Bool, true, false, not, ◌&&◌, ◌||◌, ◌==◌, nat_le, nat_lt, IsTrue, List, [], ◌∷◌, Option, Some, None, slice_get, refl, sym, ◌∙◌, ap, arith}
+use Rattle.std.proofs.Common.{◌≡◌, ◌<◌, ◌^◌, ℕ, zero, suc, Bool, true, not, ◌&&◌, ◌||◌, ◌==◌, List, [], ◌∷◌, Some, slice_get, refl, sym, ◌∙◌, ap, arith}
 use Rattle.std.proofs.lemmas.Bool.Decides.{nat_tests}
 use Rattle.std.specs.List.{list_all}
 use Rattle.rv_isa.specs.declared.op.Op.{Op}
 use Rattle.rv_isa.specs.declared.op.Op.TheVariants.{Lui, Auipc, Jal, Jalr, Beq, Bne, Blt, Bge, Bltu, Bgeu, Lb, Lh, Lw, Lbu, Lhu, Sb, Sh, Sw, Addi, Slti, Sltiu, Xori, Ori, Andi, Slli, Srli, Srai, Add, Sub, Sll, Slt, Sltu, Xor, Srl, Sra, Or, And, Fence, Ecall, Ebreak}
-use Rattle.rv_isa.specs.declared.format.Format.TheVariants.{R, I, Shift, S, B, U, J, Fence as FenceFormat, System}
+use Rattle.rv_isa.specs.declared.format.Format.TheVariants.{Fence as FenceFormat, System}
 use Rattle.rv_isa.specs.declared.row.Row.{Row}
-use Rattle.rv_isa.specs.Bits.{field}
 use Rattle.rv_isa.specs.Table.{row_of, has_funct3, has_funct7, has_funct12, IsOfRow}
 
 -- all instructions

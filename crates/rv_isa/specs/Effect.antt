@@ -1,5 +1,5 @@
 -- What the instructions do: "Integer Computational Instructions" (2.4), "Control Transfer Instructions" (2.5) and "Load and Store Instructions" (2.6) of the chapter "RV32I Base Integer Instruction Set".
-use Rattle.std.specs.Prelude.{◌≡◌, ℕ, ◌+◌, ◌-◌, ◌*◌, ◌/◌, ◌%◌, ◌^◌, ◌<◌, ◌==◌, nat_lt, not, cond, Bool, true, false, List, bit_and, bit_or, bit_xor, int_lt}
+use Rattle.std.specs.Prelude.{ℕ, ◌+◌, ◌-◌, ◌*◌, ◌/◌, ◌%◌, ◌^◌, ◌<◌, ◌==◌, nat_lt, not, cond, Bool, true, false, List, bit_and, bit_or, bit_xor, int_lt}
 use Rattle.std.specs.Int.{w32, cast_signed, cast_unsigned}
 use Rattle.std.specs.Int.Signed.{shr_z}
 use Rattle.rv_isa.specs.Regs.{register}

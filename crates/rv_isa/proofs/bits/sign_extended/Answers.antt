@@ -1,4 +1,4 @@
-use Rattle.std.proofs.Common.{◌≡◌, ◌+◌, ◌-◌, ◌*◌, ◌/◌, ◌^◌, ◌≤◌, ◌∙◌, ap, sym, arith}
+use Rattle.std.proofs.Common.{◌≡◌, ◌+◌, ◌/◌, ◌^◌, ◌≤◌, arith}
 use Rattle.std.proofs.lemmas.Nat.Bits.{ones_shl}
 use Rattle.rv_isa.proofs.BitsLemmas.{or_high_ones, sign_bit}
 use Rattle.rv_isa.proofs.bits.sign_extended.Goals as goal
