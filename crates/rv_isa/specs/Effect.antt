@@ -1,5 +1,5 @@
--- What the instructions do: "Integer Computational Instructions" (2.4), "Control Transfer Instructions" (2.5) and "Load and Store Instructions" (2.6) of the chapter "RV32I Base Integer Instruction Set".
-use Rattle.std.specs.Prelude.{ℕ, ◌+◌, ◌-◌, ◌*◌, ◌/◌, ◌%◌, ◌^◌, ◌<◌, ◌==◌, nat_lt, not, cond, Bool, true, false, List, bit_and, bit_or, bit_xor, int_lt}
+-- What the instructions do: "Integer Computational Instructions" (2.4), "Control Transfer Instructions" (2.5), "Load and Store Instructions" (2.6), "Memory Ordering Instructions" (2.7) and "Environment Call and Breakpoints" (2.8) of the chapter "RV32I Base Integer Instruction Set".
+use Rattle.std.specs.Prelude.{◌≡◌, ℕ, ◌+◌, ◌-◌, ◌*◌, ◌/◌, ◌%◌, ◌^◌, ◌<◌, ◌==◌, nat_lt, not, cond, Bool, true, false, List, bit_and, bit_or, bit_xor, int_lt}
 use Rattle.std.specs.Int.{w32, cast_signed, cast_unsigned}
 use Rattle.std.specs.Int.Signed.{shr_z}
 use Rattle.rv_isa.specs.Regs.{register}
@@ -112,3 +112,13 @@ NamesRegister FenceEffect = Unit {0}
 NamesRegister Call = Unit {0}
 NamesRegister Break = Unit {0}
 NamesRegister BadTarget = Unit {0}
+
+-- an address to go to is a multiple of 4
+abbrev pub GoesToWord : Effect → Type 0
+GoesToWord (Go rd value next) = next % 4 ≡ 0
+GoesToWord (Load rd bytes signed addr) = Unit {0}
+GoesToWord (Store bytes addr value) = Unit {0}
+GoesToWord FenceEffect = Unit {0}
+GoesToWord Call = Unit {0}
+GoesToWord Break = Unit {0}
+GoesToWord BadTarget = Unit {0}

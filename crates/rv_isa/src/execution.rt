@@ -1,5 +1,5 @@
-ghost use Rattle.std.specs.Prelude.{◌≡◌};
-ghost use Rattle.rv_isa.specs.Effect.{effect_of, jump, branch, write, is_less_signed, shifted_right_signed, NamesRegister};
+ghost use Rattle.std.specs.Prelude.{◌≡◌, ◌%◌};
+ghost use Rattle.rv_isa.specs.Effect.{effect_of, jump, branch, write, is_less_signed, shifted_right_signed, NamesRegister, GoesToWord};
 
 use crate::effect::Effect;
 use crate::inst::Inst;
@@ -11,6 +11,7 @@ use crate::regs::Regs;
 pub fn exec(regs: &Regs, pc: u32, inst: Inst) -> Effect
     ensures effect { result ≡ effect_of regs.now pc inst }
     ensures register { NamesRegister result }
+    ensures word { pc % 4 ≡ 0 → GoesToWord result }
 {
     let Inst { op, rd, imm, .. } = inst;
     let first = regs.get(inst.rs1);
