@@ -1,0 +1,6 @@
+pub mod Bits
+pub mod Effect
+pub mod Format
+pub mod Inst
+pub mod Regs
+pub mod Table
