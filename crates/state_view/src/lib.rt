@@ -1,0 +1,8 @@
+//! What is shown of a world: the report at the end of a run.
+#![tactic(auto)]
+
+mod lines;
+mod text;
+mod world_report;
+
+pub use world_report::report;
