@@ -1,0 +1,8 @@
+//! The next times of actors: the least of them at one look, and each change in as many looks as their number has binary digits.
+#![tactic(auto)]
+
+mod key;
+mod key_row;
+
+pub use key::Key;
+pub use key_row::KeyRow;
