@@ -1,1 +1,4 @@
+pub mod Heap
 pub mod KeyRow
+pub mod NextTimes
+pub mod Places
