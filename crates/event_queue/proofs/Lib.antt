@@ -1,4 +1,5 @@
 pub mod CountLemmas
+pub mod DueLemmas
 pub mod EditLemmas
 pub mod HeapLemmas
 pub mod PlacesLemmas

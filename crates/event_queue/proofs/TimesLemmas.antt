@@ -1,8 +1,9 @@
 -- The list of optional times that a row and the places of its actors show.
-use Rattle.std.proofs.Common.{◌≡◌, ◌≢◌, ℕ, ◌+◌, ◌-◌, ◌*◌, ◌^◌, ◌<◌, ◌≤◌, ◌/◌, ◌↔◌, zero, suc, List, [], length, get_or, set, map, replicate, Option, Some, None, All, inl, inr, refl, ap, subst, sym, ◌∙◌, arith}
+use Rattle.std.proofs.Common.{◌≡◌, ◌≢◌, ℕ, ◌+◌, ◌-◌, ◌*◌, ◌^◌, ◌<◌, ◌≤◌, ◌/◌, ◌↔◌, zero, suc, List, [], length, get_or, set, map, replicate, Option, Some, None, All, cond, inl, inr, refl, ap, subst, sym, ◌∙◌, arith}
 use Rattle.std.specs.List.{range_with_len}
 use Rattle.std.proofs.lemmas.Bool.{cases_lt, cases_eq}
-use Rattle.std.proofs.lemmas.List.{same_lists, get_or-set_same, get_or-set_other, length-set, length-replicate, get_or-replicate, get_or_past, get_or_default}
+use Rattle.std.proofs.lemmas.List.{same_lists, get_or-set_same, get_or-set_other, length-set, length-replicate, get_or-replicate, get_or_past, get_or-map, length-map}
+use Rattle.std.proofs.lemmas.List.Sums.{sum-map}
 use Rattle.std.proofs.lemmas.List.FromFn.{length-map-range_with_len, get_or-map-range_with_len}
 use Rattle.std.proofs.lemmas.Option.{none-some, same_Some}
 use Rattle.sim_base.specs.declared.phase.Phase.{Phase}
@@ -11,7 +12,10 @@ use Rattle.sim_base.specs.declared.time.Time.{Time}
 use Rattle.event_queue.specs.declared.key.Key.{Key}
 use Rattle.event_queue.specs.KeyRow.{Row, pair_at}
 use Rattle.event_queue.specs.Heap.{rank_at, IsHeap}
-use Rattle.event_queue.specs.NextTimes.{time_of, IsFirst}
+use Rattle.event_queue.specs.NextTimes.{time_of, IsFirst, NoneDue, IsLeastDue, is_by, count_due_by}
+use Rattle.event_queue.specs.Due.{tree_sum, one_by, one_due, IsDue, AreActors}
+use Rattle.event_queue.proofs.CountLemmas.{sum_below-le-sum, who_at, who_apart}
+use Rattle.event_queue.proofs.DueLemmas.{whole_tree, levels_enough, one_due-here, one_by-past, one_by-le, sum_below-at, sum_below-past}
 use Rattle.event_queue.specs.Places.{time_at, times_of, IsPlaced, SetsTime, IsIndexed}
 use Rattle.event_queue.proofs.PlacesLemmas.{Owns, time_at-owned, time_at-none, owned_or_none}
 
@@ -97,3 +101,54 @@ IsFirst-root row places parts phase index some is =
             is.1 (omega (arith, root_is_least pairs index.heap own.0 own.0 (omega arith) own.1.0, ap (λ (u : Time). u.0) own.2, own.1.1, found.1)),
       );
     }
+
+pub actors_of : (row : Row) (places : List ℕ) → IsIndexed row places → AreActors row.pairs
+actors_of row places index = record { small = λ p within. omega (arith, index.placed.who_within p within, index.few) }
+
+-- no pair that is due was missed
+pub NoneDue-from_tree : (row : Row) (places : List ℕ) (t : Time) (from bound : ℕ) → IsIndexed row places → ((levels : ℕ) → length row.pairs < (0 + 1) * 2 ^ levels → tree_sum (one_due row.pairs t from bound) levels 0 ≡ 0) → NoneDue (times_of row.pairs places) t from bound
+NoneDue-from_tree row places t from bound index none i lo hi has =
+    let pairs = row.pairs in
+    let m = length pairs in
+    let all = whole_tree (one_due pairs t from bound) m in
+    let enough = levels_enough m in
+    let zero_all : tree_sum (one_due pairs t from bound) m 0 ≡ 0 = none m (omega (arith, enough)) in
+    let own = owner_of pairs places i t index.placed has in
+    let here = one_due-here pairs t from bound own.0 own.1.0 (ap (λ (u : Time). u.0) own.2) (omega (arith, own.1.1, lo)) (omega (arith, own.1.1, hi)) in
+    absurd (omega (arith, here, zero_all, all.1, sum_below-at (one_due pairs t from bound) own.0 all.0 (omega (arith, all.2, enough, own.1.0))))
+
+pub none_due_in_empty : (pairs : List Key) (places : List ℕ) (t : Time) (from below : ℕ) → IsPlaced pairs places → length pairs ≡ 0 → NoneDue (times_of pairs places) t from below
+none_due_in_empty pairs places t from below placed empty i lo hi has =
+    let own = owner_of pairs places i t placed has in
+    absurd (omega (arith, own.1.0, empty))
+
+pub IsLeastDue-from : (row : Row) (places : List ℕ) (t : Time) (from below who : ℕ) → IsIndexed row places → who < below → IsDue row.pairs t from who → NoneDue (times_of row.pairs places) t from who → IsLeastDue (times_of row.pairs places) t from below who
+IsLeastDue-from row places t from below who index lt due none = record {
+  not_below_from = due.not_below;
+  below_end = lt;
+  due =
+      ap (time_of (times_of row.pairs places)) (sym due.who_is)
+      ∙ time_of-owned row.pairs places due.place index.placed due.within
+      ∙ ap (λ u. Some u) due.time_is;
+  least = none;
+}
+
+-- no more pairs have a time not above this one than actors have
+pub tree_sum-le-count : (row : Row) (places : List ℕ) (t : Time) → IsIndexed row places → tree_sum (one_by row.pairs t) (length row.pairs) 0 ≤ count_due_by (times_of row.pairs places) t
+tree_sum-le-count row places t index =
+    let pairs = row.pairs in
+    let times = times_of pairs places in
+    let m = length pairs in
+    let f : Option Time → ℕ = λ o. cond (is_by t o) 1 0 in
+    let all = whole_tree (one_by pairs t) m in
+    let short = sum_below-past (one_by pairs t) m (one_by-past pairs t) all.0 in
+    let le = sum_below-le-sum m (one_by pairs t) (who_at pairs) (map f times)
+    (λ p within.
+    let known = index.placed.who_within p within in
+    let in_times : who_at pairs p < length times = omega (arith, length-times_of pairs places, known) in
+    let read : get_or (map f times) (who_at pairs p) 0 ≡ f (Some (pair_at pairs p).time) = get_or-map f times (who_at pairs p) None 0 in_times ∙ ap f (time_of-owned pairs places p index.placed within) in (
+      omega (arith, length-map times f, in_times),
+      omega (arith, read, one_by-le pairs t p),
+    ))
+    (who_apart pairs places index.placed) in
+    omega (arith, all.1, short, le, sum-map f times)

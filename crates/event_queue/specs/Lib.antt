@@ -1,3 +1,4 @@
+pub mod Due
 pub mod Heap
 pub mod KeyRow
 pub mod NextTimes

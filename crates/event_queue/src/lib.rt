@@ -1,6 +1,7 @@
 //! The next times of actors: the least of them at one look, and each change in as many looks as their number has binary digits.
 #![tactic(auto)]
 
+mod due;
 mod edits;
 mod key;
 mod key_row;

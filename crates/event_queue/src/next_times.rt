@@ -1,6 +1,7 @@
-ghost use Rattle.std.specs.Prelude.{◌≡◌, ℕ, ◌+◌, ◌*◌, ◌^◌, ◌<◌, ◌≤◌, ◌↔◌, IsTrue, Some, None, length, replicate, slice_set, All, IsNone, IfOk, IfSome};
-ghost use Rattle.event_queue.specs.NextTimes.{time_of, earlier, IsFirst};
+ghost use Rattle.std.specs.Prelude.{◌≡◌, ℕ, ◌+◌, ◌*◌, ◌^◌, ◌<◌, ◌≤◌, ◌↔◌, IsTrue, Some, None, length, replicate, slice_set, All, IsNone, IfNone, IfOk, IfSome};
+ghost use Rattle.event_queue.specs.NextTimes.{time_of, earlier, IsFirst, NoneDue, IsLeastDue, count_due_by};
 
+use crate::due::least_due;
 use crate::edits;
 use crate::edits::place_of;
 use crate::key_row::KeyRow;
@@ -94,5 +95,28 @@ impl NextTimes {
         }
         let phase = phase_of(self.row.who(0), parts);
         Some((self.row.time(0, looks), phase))
+    }
+
+    /// The least actor, from `from` on and below `below`, whose time is `t`.
+    pub fn due_at<L: Ledger>(
+        &self,
+        t: Time,
+        from: ActorNo,
+        below: ActorNo,
+        looks: &mut Steps<L>,
+    ) -> Option<ActorNo>
+        ensures none { IfNone result (NoneDue self.now t from.0 below.0) }
+        ensures least { IfSome result (λ who. IsLeastDue self.now t from.0 below.0 who.0) }
+        ensures cost { looks.new ≤ looks.old + 2 * count_due_by self.now t + 1 }
+    {
+        if self.row.is_empty() {
+            return None;
+        }
+        let least = least_due(&self.row, 0, t, from.0, below.0, looks);
+        if least < below.0 {
+            Some(ActorNo(least))
+        } else {
+            None
+        }
     }
 }
