@@ -1,6 +1,5 @@
 -- The list of optional times that a row and the places of its actors show.
-use Rattle.std.proofs.Common.{◌≡◌, ◌≢◌, ℕ, ◌+◌, ◌-◌, ◌*◌, ◌^◌, ◌<◌, ◌≤◌, ◌/◌, ◌↔◌, zero, suc, List, [], length, get_or, set, map, replicate, Option, Some, None, All, cond, inl, inr, refl, ap, subst, sym, ◌∙◌, arith}
-use Rattle.std.specs.List.{range_with_len}
+use Rattle.std.proofs.Common.{◌≡◌, ℕ, ◌+◌, ◌-◌, ◌*◌, ◌^◌, ◌<◌, ◌≤◌, ◌/◌, ◌↔◌, zero, suc, List, length, get_or, set, map, replicate, Option, Some, None, All, cond, inl, inr, refl, ap, sym, ◌∙◌, arith}
 use Rattle.std.proofs.lemmas.Bool.{cases_lt, cases_eq}
 use Rattle.std.proofs.lemmas.List.{same_lists, get_or-set_same, get_or-set_other, length-set, length-replicate, get_or-replicate, get_or_past, get_or-map, length-map}
 use Rattle.std.proofs.lemmas.List.Sums.{sum-map}

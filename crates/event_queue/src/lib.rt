@@ -11,3 +11,6 @@ mod sift;
 pub use key::Key;
 pub use key_row::KeyRow;
 pub use next_times::NextTimes;
+
+#[cfg(test)]
+mod tests;
