@@ -1,0 +1,21 @@
+//! Reading configurations: from the bytes of a file to the plan that it writes, or the first rule that it breaks.
+#![tactic(auto)]
+
+mod fault;
+mod keys;
+mod kinds;
+mod link_text;
+mod list_of;
+mod map_text;
+mod part_text;
+mod plan_text;
+mod program_text;
+mod section;
+
+pub use fault::{ConfigFault, ConfigRule, Key, TableNo};
+pub use link_text::{LinkKeys, LinkText, PortRef};
+pub use list_of::ListOf;
+pub use map_text::{MapText, RangeText};
+pub use part_text::{PartKeys, PartText};
+pub use plan_text::PlanText;
+pub use program_text::ProgramText;
