@@ -1,1 +1,4 @@
 pub mod NameTests
+pub mod WordTests
+pub mod Fronts
+pub mod Elements

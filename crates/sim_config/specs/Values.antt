@@ -2,6 +2,7 @@
 use Rattle.std.specs.Prelude.{ℕ, ◌+◌, List, [], ◌∷◌, map, length, take, drop, position, Bool, true, false, ◌==◌, ◌&&◌, ◌||◌, nat_le, nat_lt, pos, negsuc, Option, Some, None, option_map, ok_or, Result, Ok, Err, if◌then◌else◌, ◌≡◌}
 use Rattle.std.specs.List.{list_all, list_any}
 use Rattle.std.specs.Prelude.{bytes_eq}
+use Rattle.std.specs.Borrow.{Bor}
 use Rattle.sim_base.specs.Name.{is_name_byte}
 use Rattle.toml.specs.Data.{Data, string, integer, array, table, Items, no_items, item, Members, no_members, member, get_member}
 use Rattle.sim_config.specs.declared.fault.ConfigFault.{ConfigFault}
@@ -158,6 +159,10 @@ list_at read place row = read_at place row.word (list_or_missing row.is_optional
 
 abbrev pub tables_at : TableNo → ListRow → Members → Result (List Members) ConfigFault
 tables_at = list_at table_in
+
+-- the bytes of some texts
+abbrev pub texts : List (Bor (List ℕ)) → List (List ℕ)
+texts = map (λ t. t.now)
 
 -- the keys that a table has
 abbrev pub words_in : Members → List (List ℕ)

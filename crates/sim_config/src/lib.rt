@@ -1,16 +1,19 @@
 //! Reading configurations: from the bytes of a file to the plan that it writes, or the first rule that it breaks.
 #![tactic(auto)]
 
+mod element;
 mod fault;
 mod keys;
 mod kinds;
 mod link_text;
+mod list;
 mod list_of;
 mod map_text;
 mod part_text;
 mod plan_text;
 mod program_text;
 mod section;
+mod values;
 
 pub use fault::{ConfigFault, ConfigRule, Key, TableNo};
 pub use link_text::{LinkKeys, LinkText, PortRef};
