@@ -1,4 +1,4 @@
 pub mod NameTests
 pub mod WordTests
 pub mod Fronts
-pub mod Elements
+pub mod Counts

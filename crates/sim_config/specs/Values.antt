@@ -157,6 +157,12 @@ list_or_missing is_optional = if is_optional then Ok [] else Err Missing
 abbrev pub list_at : {A : Type 0} → (Data → Result A ConfigRule) → TableNo → ListRow → Members → Result (List A) ConfigFault
 list_at read place row = read_at place row.word (list_or_missing row.is_optional) (list_in read row.lengths)
 
+-- the tables among the items
+abbrev pub tables_of : Items → List Members
+tables_of no_items = []
+tables_of (item (table ms) ds) = ms ∷ tables_of ds
+tables_of (item _ ds) = tables_of ds
+
 abbrev pub tables_at : TableNo → ListRow → Members → Result (List Members) ConfigFault
 tables_at = list_at table_in
 

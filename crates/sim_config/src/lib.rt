@@ -13,6 +13,8 @@ mod part_text;
 mod plan_text;
 mod program_text;
 mod section;
+mod table_reader;
+mod word;
 mod values;
 
 pub use fault::{ConfigFault, ConfigRule, Key, TableNo};
