@@ -8,6 +8,7 @@ mod kinds;
 mod link_text;
 mod list;
 mod list_of;
+mod map_reader;
 mod map_text;
 mod part_text;
 mod plan_text;

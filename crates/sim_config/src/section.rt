@@ -7,8 +7,10 @@ ghost use Rattle.sim_config.specs.Values.{at_key, broken, has_only, texts, known
 
 use crate::fault::{ConfigFault, ConfigRule, Key, TableNo};
 use crate::keys::NumberKey;
-use crate::values::{name_in, name_of, number_in, some_number_in};
-use sim_base::Name;
+use crate::values::{file_in, name_in, name_of, number_in, some_number_in, word_in};
+use crate::word::Word;
+use sim_base::{Body, Name};
+use std::alloc::Global;
 use toml::{Table, Value};
 
 /// A table of the document, and which it is.
@@ -54,9 +56,9 @@ fn has_only(table: &Table, words: &[&str], own: &[&str]) -> bool
 }
 
 impl<'a> Section<'a> {
-    ghost use Rattle.std.specs.Prelude.{IfOk};
+    ghost use Rattle.std.specs.Prelude.{◌<◌, length, IfOk, IfSome, IsUtf8};
     ghost use Rattle.sim_config.specs.Keys.{IsAllowed, number_row};
-    ghost use Rattle.sim_config.specs.Values.{number_at, optional_number_at, name_at};
+    ghost use Rattle.sim_config.specs.Values.{number_at, optional_number_at, name_at, choice_at, choice_or, file_at, Gives};
 
     pub(crate) fn fault(&self, rule: ConfigRule, word: &str) -> ConfigFault
         ensures { result ≡ broken rule self.now.place word.now }
@@ -100,7 +102,10 @@ impl<'a> Section<'a> {
     }
 
     pub(crate) fn number(&self, key: &NumberKey) -> Result<u64, ConfigFault>
+        requires { IfSome key.now.default (IsAllowed key.now.allowed) }
+
         ensures value { result ≡ number_at self.now.place (number_row key.now) (table_view self.now.table.now) }
+        ensures allowed { IfOk result (IsAllowed key.now.allowed) }
     {
         let read = match self.value(key.word) {
             Some(value) => number_in(value, &key.allowed),
@@ -112,6 +117,7 @@ impl<'a> Section<'a> {
     /// A number, or None where the key is left out.
     pub(crate) fn optional_number(&self, key: &NumberKey) -> Result<Option<u64>, ConfigFault>
         ensures value { result ≡ optional_number_at self.now.place (number_row key.now) (table_view self.now.table.now) }
+        ensures allowed { IfOk result (λ number. IfSome number (IsAllowed key.now.allowed)) }
     {
         let read = match self.value(key.word) {
             Some(value) => some_number_in(value, &key.allowed),
@@ -128,5 +134,39 @@ impl<'a> Section<'a> {
             None => Err(ConfigRule::Missing),
         };
         self.at_key(word, read)
+    }
+    /// One of some words, at a key that must be there.
+    pub(crate) fn choice<W: Word>(&self, word: &str) -> Result<W, ConfigFault>
+        ensures { result ≡ choice_at self.now.place word.now W.meaning (table_view self.now.table.now) }
+    {
+        let read = match self.value(word) {
+            Some(value) => word_in::<W>(value),
+            None => Err(ConfigRule::Missing),
+        };
+        self.at_key(word, read)
+    }
+
+    /// One of some words, and a default where the key is left out.
+    pub(crate) fn choice_or<W: Word>(&self, default: W, word: &str) -> Result<W, ConfigFault>
+        ensures { result ≡ choice_or default self.now.place word.now W.meaning (table_view self.now.table.now) }
+    {
+        let read = match self.value(word) {
+            Some(value) => word_in::<W>(value),
+            None => Ok(default),
+        };
+        self.at_key(word, read)
+    }
+
+    /// A text that is not empty.
+    pub(crate) fn file(&self, alloc: Global, word: &str) -> Result<Body, ConfigFault>
+        ensures meaning { Gives result (file_at self.now.place word.now (table_view self.now.table.now)) }
+        ensures some { IfOk result (λ file. 0 < length file) }
+        ensures text { IfOk result (λ file. IsUtf8 file) }
+    {
+        let text = match self.value(word) {
+            Some(value) => self.at_key(word, file_in(value))?,
+            None => return Err(self.fault(ConfigRule::Missing, word)),
+        };
+        Ok(Body::of(Vec::from_slice(alloc, text.as_bytes())?))
     }
 }

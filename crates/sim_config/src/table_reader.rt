@@ -1,13 +1,13 @@
 ghost use Rattle.std.specs.Prelude.{◌≡◌, ℕ, Result, IfOk, IfErr, Ok, Err, length, false};
 ghost use Rattle.toml.specs.Data.{Members};
-ghost use Rattle.toml.specs.View.{items_view, table_view};
+ghost use Rattle.toml.specs.View.{items_view, table_view, view};
 ghost use Rattle.sim_config.specs.declared.fault.ConfigFault.{ConfigFault};
 ghost use Rattle.sim_config.specs.Keys.{IsAllowed, list_row};
-ghost use Rattle.sim_config.specs.Values.{some_wrong_type, table_in, tables_at, tables_of, Gives};
+ghost use Rattle.sim_config.specs.Values.{list_in, some_wrong_type, table_in, tables_at, tables_of, Gives};
 ghost use Rattle.sim_config.specs.Meaning.{each};
 
 use crate::fault::{ConfigFault, ConfigRule};
-use crate::keys::ListKey;
+use crate::keys::{Allowed, ListKey};
 use crate::list::{has_length, some_other};
 use crate::list_of::ListOf;
 use crate::section::Section;
@@ -58,6 +58,26 @@ pub(crate) fn each<R: TableReader>(
     Ok(ListOf::of(texts))
 }
 
+/// The elements of a list of tables, or the rule that it breaks.
+fn tables_in<'a>(value: &'a Value, lengths: &Allowed) -> Result<&'a [Value], ConfigRule>
+    ensures ok { IfOk result (λ values. list_in table_in lengths.now (view value.now) ≡ Ok (tables_of (items_view values.now))) }
+    ensures err { IfErr result (λ rule. list_in table_in lengths.now (view value.now) ≡ Err rule) }
+    ensures tables { IfOk result (λ values. some_wrong_type table_in (items_view values.now) ≡ false) }
+    ensures lengths { IfOk result (λ values. IsAllowed lengths.now (length values.now)) }
+{
+    let Value::Array(values) = value else {
+        return Err(ConfigRule::WrongType);
+    };
+    let values = values.as_slice();
+    if some_other(values) {
+        Err(ConfigRule::WrongType)
+    } else if has_length(values, lengths) {
+        Ok(values)
+    } else {
+        Err(ConfigRule::OutOfRange)
+    }
+}
+
 /// The tables of a list at a key.
 pub(crate) fn tables<'a>(section: &Section<'a>, key: &ListKey) -> Result<&'a [Value], ConfigFault>
     ensures ok { IfOk result (λ values. tables_at section.now.place (list_row key.now) (table_view section.now.table.now) ≡ Ok (tables_of (items_view values.now))) }
@@ -71,14 +91,8 @@ pub(crate) fn tables<'a>(section: &Section<'a>, key: &ListKey) -> Result<&'a [Va
         }
         return Err(section.fault(ConfigRule::Missing, key.word));
     };
-    let Value::Array(values) = value else {
-        return Err(section.fault(ConfigRule::WrongType, key.word));
-    };
-    if some_other(values) {
-        return Err(section.fault(ConfigRule::WrongType, key.word));
+    match tables_in(value, &key.lengths) {
+        Ok(values) => Ok(values),
+        Err(rule) => Err(section.fault(rule, key.word)),
     }
-    if !has_length(values, &key.lengths) {
-        return Err(section.fault(ConfigRule::OutOfRange, key.word));
-    }
-    Ok(values)
 }

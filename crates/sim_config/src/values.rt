@@ -1,4 +1,5 @@
-ghost use Rattle.std.specs.Prelude.{◌≡◌, ◌==◌, ◌<◌, length, position, IfOk, IfSome};
+ghost use Rattle.std.specs.Prelude.{◌≡◌, ◌==◌, ◌<◌, length, position, IfOk, IfErr, IfSome, Ok, Err, IsUtf8};
+ghost use Rattle.sim_config.specs.declared.fault.ConfigRule.TheVariants.{OutOfRange};
 ghost use Rattle.toml.specs.View.{view};
 ghost use Rattle.sim_config.specs.Keys.{IsAllowed};
 ghost use Rattle.sim_config.specs.Values as spec;
@@ -6,6 +7,7 @@ ghost use Rattle.sim_config.specs.Values as spec;
 use crate::fault::ConfigRule;
 use crate::keys::Allowed;
 use crate::link_text::PortRef;
+use crate::word::Word;
 use sim_base::Name;
 use toml::Value;
 
@@ -88,4 +90,31 @@ pub(crate) fn port_in(value: &Value) -> Result<PortRef, ConfigRule>
         return Err(ConfigRule::WrongType);
     };
     port_of(text.as_bytes()).ok_or(ConfigRule::NameShape)
+}
+
+/// One of some words.
+pub(crate) fn word_in<W: Word>(value: &Value) -> Result<W, ConfigRule>
+    ensures { result ≡ spec.text_in W.meaning OutOfRange (view value.now) }
+{
+    let Value::String(text) = value else {
+        return Err(ConfigRule::WrongType);
+    };
+    W::read(text.as_str()).ok_or(ConfigRule::OutOfRange)
+}
+
+/// A text that is not empty.
+pub(crate) fn file_in(value: &Value) -> Result<&str, ConfigRule>
+    ensures ok { IfOk result (λ text. spec.text_in spec.some_text OutOfRange (view value.now) ≡ Ok text.now) }
+    ensures err { IfErr result (λ rule. spec.text_in spec.some_text OutOfRange (view value.now) ≡ Err rule) }
+    ensures some { IfOk result (λ text. 0 < length text.now) }
+    ensures text { IfOk result (λ text. IsUtf8 text.now) }
+{
+    let Value::String(text) = value else {
+        return Err(ConfigRule::WrongType);
+    };
+    let text = text.as_str();
+    if text.is_empty() {
+        return Err(ConfigRule::OutOfRange);
+    }
+    Ok(text)
 }

@@ -1,4 +1,4 @@
-use Rattle.sim_config.proofs.Counts.{item_count-view}
+use Rattle.sim_config.proofs.ItemLaws.{item_count-view}
 use Rattle.sim_config.proofs.list.has_length.Goals as goal
 
 pub returns-clause-value : goal.returns-clause-value
