@@ -1,4 +1,5 @@
-ghost use Rattle.std.specs.Prelude.{◌≡◌, ◌<◌, length, Some, None, Ok, Err, IfOk, IfErr, codes};
+ghost use Rattle.std.specs.Prelude.{◌≡◌, ◌≢◌, true, false, Some, None, IfOk, IfErr, IfSome, IfNone};
+ghost use Rattle.std.specs.Str.{is_utf8};
 ghost use Rattle.toml.specs.View.{table_view};
 ghost use Rattle.sim_config.specs.declared.fault.ConfigFault.TheVariants.{Broken, OutOfMemory};
 ghost use Rattle.sim_config.specs.declared.fault.ConfigRule.TheVariants.{NotToml, TooLong};
@@ -53,18 +54,34 @@ fn plan(alloc: Global, table: &Table) -> Result<PlanText, ConfigFault>
     })
 }
 
+/// The text that these bytes are, None where they are not UTF-8.
+fn text_of(bytes: &[u8]) -> Option<&str>
+    ensures some { IfSome result (λ text. (is_utf8 bytes.now ≡ true) × (text.now ≡ bytes.now)) }
+    ensures none { IfNone result (is_utf8 bytes.now ≡ false) }
+{
+    match std::str::from_utf8(bytes) {
+        Ok(text) => Some(text),
+        Err(_) => None,
+    }
+}
+
 /// The TOML document that these bytes are.
 fn document(alloc: Global, bytes: &[u8]) -> Result<Table, ConfigFault>
     ensures ok { IfOk result (λ table. spec.document_of bytes.now ≡ Some (table_view table)) }
-    ensures err { IfErr result (λ fault. Gives (Err fault) (spec.plan_of (spec.document_of bytes.now))) }
+    ensures err { IfErr result (λ fault. fault ≢ OutOfMemory → (spec.document_of bytes.now ≡ None) × (fault ≡ Broken NotToml Top None)) }
 {
-    let Ok(text) = std::str::from_utf8(bytes) else {
+    let Some(text) = text_of(bytes) else {
         return Err(broken(ConfigRule::NotToml));
     };
     match toml::table_from_str(alloc, text) {
         Ok(table) => Ok(table),
-        Err(error) if error.is_memory() => Err(ConfigFault::OutOfMemory),
-        Err(_) => Err(broken(ConfigRule::NotToml)),
+        Err(error) => {
+            if error.is_memory() {
+                Err(ConfigFault::OutOfMemory)
+            } else {
+                Err(broken(ConfigRule::NotToml))
+            }
+        }
     }
 }
 
@@ -76,5 +93,6 @@ pub fn read_config(alloc: Global, bytes: &[u8]) -> Result<PlanText, ConfigFault>
     if bytes.len() > LONGEST_CONFIG {
         return Err(broken(ConfigRule::TooLong));
     }
-    plan(alloc, &document(alloc, bytes)?)
+    let table = document(alloc, bytes)?;
+    plan(alloc, &table)
 }
