@@ -1,5 +1,8 @@
 -- The test of a name and the fact that it decides.
-use Rattle.std.proofs.Common.{◌≡◌, ℕ, ◌<◌, ◌≤◌, ◌↔◌, Bool, true, false, IsTrue, IsSome, IfSome, List, length, Option, Some, None, nat_lt, nat_le, refl, ◌&&◌, if◌then◌else◌, arith}
+use Rattle.std.proofs.Common.{◌≡◌, ℕ, ◌<◌, ◌≤◌, ◌↔◌, Bool, true, false, IsTrue, IsSome, IfSome, List, length, Option, Some, None, nat_lt, nat_le, refl, ◌&&◌, if◌then◌else◌, get_or, arith}
+use Rattle.std.specs.Prelude.{IsUtf8}
+use Rattle.std.proofs.lemmas.Str.{IsUtf8-from_ascii}
+use Rattle.std.proofs.lemmas.Str.Ascii.{IsAscii-from_all}
 use Rattle.std.specs.List.{list_all}
 use Rattle.std.proofs.lemmas.Bool.{and_parts, false≢true}
 use Rattle.std.proofs.lemmas.Bool.Decides.{nat_tests}
@@ -24,7 +27,13 @@ IsName-from_is_name text h =
 pub name_of-read : (text : List ℕ) (r : Option (List ℕ)) → (IsSome r ↔ IsName text) → IfSome r (λ name. name ≡ text) → r ≡ name_of text
 name_of-read text None shape same =
     elim (is_name text) as (λ b. (b ≡ true → IsName text) → None ≡ (if b then Some text else None)) [
-      true ↦ λ h. absurd (false≢true (shape.1 (h refl)))
-    | false ↦ λ _. refl
+      | true ↦ λ h. absurd (false≢true (shape.1 (h refl)))
+      | false ↦ λ _. refl
     ] (IsName-from_is_name text)
 name_of-read text (Some name) shape same = rw (is_name-from_IsName text (shape.0 refl), same)
+
+is_name_byte-ascii : (b : ℕ) → is_name_byte b ≡ true → b < 128
+is_name_byte-ascii b h = grind (arith, nat_tests)
+
+pub IsUtf8-from_IsName : (text : List ℕ) → IsName text → IsUtf8 text
+IsUtf8-from_IsName text h = IsUtf8-from_ascii text (IsAscii-from_all text (λ k d below. is_name_byte-ascii (get_or text k d) (h.2 k d below)))

@@ -2,3 +2,4 @@ pub mod Keys
 pub mod Tables
 pub mod Values
 pub mod Meaning
+pub mod Words

@@ -41,7 +41,7 @@ pub enum TableNo {
 pub struct Key(pub Name);
 
 /// Why a file is no configuration.
-#[derive(Clone, Copy, PartialEq, Eq)]
+#[derive(Clone, Copy, Debug, PartialEq, Eq)]
 pub enum ConfigFault {
     /// The first rule that is broken, in which table, and at which key where the rule is about one.
     Broken {

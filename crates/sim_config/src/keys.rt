@@ -394,11 +394,17 @@ pub(crate) const PORTS: ListKey = ListKey {
 };
 
 pub(crate) const NAME: &str = "name";
+
 pub(crate) const KIND: &str = "kind";
 
 pub(crate) const TOP_WORDS: [&str; 6] = ["version", "until", "map", "part", "link", "program"];
+
 pub(crate) const MAP_WORDS: [&str; 2] = [NAME, "range"];
+
 pub(crate) const RANGE_WORDS: [&str; 4] = ["base", "size", "to", "granule"];
+
 pub(crate) const PART_WORDS: [&str; 4] = [NAME, KIND, "period", "buffer"];
+
 pub(crate) const LINK_WORDS: [&str; 3] = [NAME, KIND, "period"];
+
 pub(crate) const PROGRAM_WORDS: [&str; 2] = ["core", "file"];

@@ -1,5 +1,4 @@
 ghost use Rattle.std.specs.Prelude.{◌≡◌};
-
 ghost use Rattle.sim_config.specs.Values.{texts};
 
 /// The kinds of parts.

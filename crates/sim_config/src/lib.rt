@@ -19,8 +19,11 @@ mod program_text;
 mod reader;
 mod section;
 mod table_reader;
-mod word;
+#[cfg(test)]
+mod tests;
 mod values;
+mod word;
+mod words;
 
 pub use fault::{ConfigFault, ConfigRule, Key, TableNo};
 pub use link_text::{LinkKeys, LinkText, PortRef};

@@ -17,7 +17,10 @@ use toml::Table;
 fn link(alloc: Global, number: u32, table: &Table) -> Result<LinkText, ConfigFault>
     ensures { Gives result (spec.link_at number (table_view table.now)) }
 {
-    let section = Section { place: TableNo::Link(number), table };
+    let section = Section {
+        place: TableNo::Link(number),
+        table,
+    };
     let name = section.name(NAME)?;
     let kind = section.choice::<LinkKind>(KIND)?;
     section.known(&LINK_WORDS, kind.words())?;
@@ -26,7 +29,12 @@ fn link(alloc: Global, number: u32, table: &Table) -> Result<LinkText, ConfigFau
     let kind = match kind {
         LinkKind::Direct => LinkKeys::Direct,
     };
-    Ok(LinkText { name, period, ports, kind })
+    Ok(LinkText {
+        name,
+        period,
+        ports,
+        kind,
+    })
 }
 
 #[derive(Clone, Copy)]

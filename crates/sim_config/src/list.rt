@@ -65,7 +65,6 @@ fn elements<E: Element>(
     Ok(ListOf::of(read))
 }
 
-
 /// The elements of a list, or the rule that it breaks, at the key of this word.
 fn list_in<E: Element>(
     alloc: Global,
@@ -90,7 +89,11 @@ fn list_in<E: Element>(
 }
 
 /// The elements of a list at a key that must be there.
-pub(crate) fn list<E: Element>(alloc: Global, section: &Section, key: &ListKey) -> Result<ListOf<E::Read>, ConfigFault>
+pub(crate) fn list<E: Element>(
+    alloc: Global,
+    section: &Section,
+    key: &ListKey,
+) -> Result<ListOf<E::Read>, ConfigFault>
     requires { key.now.is_optional ≡ false }
 
     ensures meaning { Gives result (list_at E.value_in section.now.place (list_row key.now) (table_view section.now.table.now)) }
@@ -103,7 +106,11 @@ pub(crate) fn list<E: Element>(alloc: Global, section: &Section, key: &ListKey) 
 }
 
 /// The elements of a list at a key, none where the key is left out.
-pub(crate) fn optional_list<E: Element>(alloc: Global, section: &Section, key: &ListKey) -> Result<ListOf<E::Read>, ConfigFault>
+pub(crate) fn optional_list<E: Element>(
+    alloc: Global,
+    section: &Section,
+    key: &ListKey,
+) -> Result<ListOf<E::Read>, ConfigFault>
     requires { key.now.is_optional ≡ true }
 
     ensures meaning { Gives result (list_at E.value_in section.now.place (list_row key.now) (table_view section.now.table.now)) }

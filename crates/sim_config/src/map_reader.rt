@@ -5,9 +5,7 @@ ghost use Rattle.sim_config.specs.Meaning as spec;
 
 use crate::element::Names;
 use crate::fault::{ConfigFault, TableNo};
-use crate::keys::{
-    ADDRESS_LIMIT, BASE, GRANULE, MAP_WORDS, NAME, RANGE_WORDS, RANGES, SIZE, TO,
-};
+use crate::keys::{ADDRESS_LIMIT, BASE, GRANULE, MAP_WORDS, NAME, RANGE_WORDS, RANGES, SIZE, TO};
 use crate::list::list;
 use crate::map_text::{MapText, RangeText};
 use crate::section::Section;
@@ -25,7 +23,10 @@ struct Ranges {
 fn range(alloc: Global, map: u32, number: u32, table: &Table) -> Result<RangeText, ConfigFault>
     ensures { Gives result (spec.range_at map number (table_view table.now)) }
 {
-    let section = Section { place: TableNo::Range(map, number), table };
+    let section = Section {
+        place: TableNo::Range(map, number),
+        table,
+    };
     section.known(&RANGE_WORDS, &[])?;
     let base = section.number(&BASE)?;
     let size = section.number(&SIZE.at_most(ADDRESS_LIMIT - base))?;
@@ -56,7 +57,10 @@ pub(crate) struct Maps;
 fn map(alloc: Global, number: u32, table: &Table) -> Result<MapText, ConfigFault>
     ensures { Gives result (spec.map_at number (table_view table.now)) }
 {
-    let section = Section { place: TableNo::Map(number), table };
+    let section = Section {
+        place: TableNo::Map(number),
+        table,
+    };
     let name = section.name(NAME)?;
     section.known(&MAP_WORDS, &[])?;
     let ranges = tables(&section, &RANGES)?;

@@ -138,7 +138,10 @@ fn keys(alloc: Global, kind: PartKind, section: &Section) -> Result<PartKeys, Co
 fn part(alloc: Global, number: u32, table: &Table) -> Result<PartText, ConfigFault>
     ensures { Gives result (spec.part_at number (table_view table.now)) }
 {
-    let section = Section { place: TableNo::Part(number), table };
+    let section = Section {
+        place: TableNo::Part(number),
+        table,
+    };
     let name = section.name(NAME)?;
     let kind = section.choice::<PartKind>(KIND)?;
     section.known(&PART_WORDS, kind.words())?;

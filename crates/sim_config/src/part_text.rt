@@ -6,7 +6,10 @@ use std::marker::Model;
 #[derive(Drop)]
 pub enum PartKeys {
     /// A relay that sends tokens to `to`, with one in the beginning where `start` is there.
-    Relay { to: Name, start: Option<u32> },
+    Relay {
+        to: Name,
+        start: Option<u32>,
+    },
     /// An agent that makes `count` requests to the `span` bytes from `base` on.
     Agent {
         map: Name,

@@ -14,7 +14,10 @@ use toml::Table;
 fn program(alloc: Global, number: u32, table: &Table) -> Result<ProgramText, ConfigFault>
     ensures { Gives result (spec.program_at number (table_view table.now)) }
 {
-    let section = Section { place: TableNo::Program(number), table };
+    let section = Section {
+        place: TableNo::Program(number),
+        table,
+    };
     section.known(&PROGRAM_WORDS, &[])?;
     let core = section.name("core")?;
     let file = section.file(alloc, "file")?;

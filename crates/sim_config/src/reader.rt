@@ -37,7 +37,10 @@ fn broken(rule: ConfigRule) -> ConfigFault
 fn plan(alloc: Global, table: &Table) -> Result<PlanText, ConfigFault>
     ensures { Gives result (spec.plan_at (table_view table.now)) }
 {
-    let section = Section { place: TableNo::Top, table };
+    let section = Section {
+        place: TableNo::Top,
+        table,
+    };
     section.known(&TOP_WORDS, &[])?;
     section.number(&VERSION)?;
     let until = section.number(&UNTIL)?;

@@ -92,7 +92,11 @@ impl<'a> Section<'a> {
     }
 
     /// What a key has, or the rule that is broken there.
-    pub(crate) fn at_key<T>(&self, word: &str, read: Result<T, ConfigRule>) -> Result<T, ConfigFault>
+    pub(crate) fn at_key<T>(
+        &self,
+        word: &str,
+        read: Result<T, ConfigRule>,
+    ) -> Result<T, ConfigFault>
         ensures { result ≡ at_key self.now.place word.now read }
     {
         match read {

@@ -11,5 +11,5 @@ invariant-loop-value g l =
     record {
       count : length l.read.items ≡ l.value-index;
       whole : with_front l.read.items (at_key l.section.place l.word (elements read (items_view (drop l.value-index l.values))))
-          ≡ at_key l.section.place l.word (elements read (items_view l.values))
+          ≡ at_key l.section.place l.word (elements read (items_view l.values));
     }

@@ -13,5 +13,5 @@ invariant-loop-index g l =
       tables : some_wrong_type table_in (items_view (drop l.index l.values)) ≡ false;
       count : length l.texts.items ≡ l.index;
       whole : with_front l.texts.items (each read l.index (tables_of (items_view (drop l.index l.values))))
-          ≡ each read 0 (tables_of (items_view l.values))
+          ≡ each read 0 (tables_of (items_view l.values));
     }

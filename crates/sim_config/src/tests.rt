@@ -1,0 +1,3 @@
+mod duo;
+mod keys;
+mod limits;
