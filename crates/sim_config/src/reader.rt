@@ -1,4 +1,4 @@
-ghost use Rattle.std.specs.Prelude.{◌≡◌, ◌≢◌, true, false, Some, None, IfOk, IfErr, IfSome, IfNone};
+ghost use Rattle.std.specs.Prelude.{◌≡◌, ◌≢◌, ◌<◌, length, true, false, Some, None, Err, IfOk, IfErr, IfSome, IfNone};
 ghost use Rattle.std.specs.Str.{is_utf8};
 ghost use Rattle.toml.specs.View.{table_view};
 ghost use Rattle.sim_config.specs.declared.fault.ConfigFault.TheVariants.{Broken, OutOfMemory};
@@ -92,6 +92,9 @@ fn document(alloc: Global, bytes: &[u8]) -> Result<Table, ConfigFault>
 /// The plan that a configuration writes, or the first rule that it breaks.
 pub fn read_config(alloc: Global, bytes: &[u8]) -> Result<PlanText, ConfigFault>
     ensures meaning { Gives result (spec.config_of bytes.now) }
+
+    // A file that is too long is told before any of it is looked at, so that no memory is needed.
+    ensures too_long { spec.longest_file < length bytes.now → result ≡ Err (Broken TooLong Top None) }
 {
     if bytes.len() > LONGEST_CONFIG {
         return Err(broken(ConfigRule::TooLong));

@@ -1,4 +1,4 @@
-ghost use Rattle.std.specs.Prelude.{◌≡◌, ℕ, Result, IfOk, IfErr, Ok, Err, length, false};
+ghost use Rattle.std.specs.Prelude.{◌≡◌, ◌≤◌, ◌^◌, ℕ, Result, IfOk, IfErr, Ok, Err, length, false};
 ghost use Rattle.toml.specs.Data.{Members};
 ghost use Rattle.toml.specs.View.{items_view, table_view, view};
 ghost use Rattle.sim_config.specs.declared.fault.ConfigFault.{ConfigFault};
@@ -28,7 +28,7 @@ pub(crate) trait TableReader {
 /// The number of a table as faults tell it. A file within its bounds has far fewer tables than there are such numbers.
 fn table_number(index: usize) -> Result<u32, ConfigFault>
     ensures ok { IfOk result (λ number. number ≡ index) }
-    ensures err { IfErr result (λ fault. fault ≡ ConfigFault.OutOfMemory) }
+    ensures err { IfErr result (λ fault. (2 ^ 32 ≤ index) × (fault ≡ ConfigFault.OutOfMemory)) }
 {
     match u32::try_from(index) {
         Ok(number) => Ok(number),
