@@ -1,5 +1,5 @@
 -- The test of a name and the fact that it decides.
-use Rattle.std.proofs.Common.{◌≡◌, ℕ, ◌<◌, ◌≤◌, ◌↔◌, Bool, true, false, IsTrue, IsSome, IfSome, List, length, Option, Some, None, nat_lt, nat_le, refl, ◌&&◌, if◌then◌else◌, get_or, arith}
+use Rattle.std.proofs.Common.{◌≡◌, ℕ, ◌<◌, ◌↔◌, true, false, IsSome, IfSome, List, length, Option, Some, None, nat_lt, nat_le, refl, ◌&&◌, if◌then◌else◌, get_or, arith}
 use Rattle.std.specs.Prelude.{IsUtf8}
 use Rattle.std.proofs.lemmas.Str.{IsUtf8-from_ascii}
 use Rattle.std.proofs.lemmas.Str.Ascii.{IsAscii-from_all}

@@ -1,5 +1,5 @@
 -- The keys of each table: their words, the numbers that they have, and what stands where one is left out.
-use Rattle.std.specs.Prelude.{◌≡◌, ℕ, ◌-◌, ◌%◌, ◌^◌, ◌≤◌, ◌==◌, ◌&&◌, nat_le, min, Bool, true, false, IsTrue, List, [], ◌∷◌, ◌++◌, Option, Some, None, codes}
+use Rattle.std.specs.Prelude.{◌≡◌, ℕ, ◌-◌, ◌%◌, ◌^◌, ◌≤◌, ◌==◌, ◌&&◌, nat_le, min, Bool, true, false, IsTrue, List, [], ◌∷◌, Option, Some, None, codes}
 use Rattle.std.specs.Int.{is_power_of_two}
 use Rattle.sim_config.specs.declared.keys.Allowed.{Allowed}
 use Rattle.sim_config.specs.declared.keys.Shape.{Shape}

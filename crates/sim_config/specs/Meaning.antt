@@ -1,14 +1,13 @@
 -- What a configuration means: the rules of each table in their order, to the first that is broken, or else the plan.
-use Rattle.std.specs.Prelude.{ℕ, ◌+◌, ◌-◌, ◌/◌, ◌≤◌, List, [], ◌∷◌, ◌++◌, length, nat_lt, Option, Some, None, Result, Ok, Err, if◌then◌else◌}
-use Rattle.std.specs.Prelude.{bytes_eq, codes, Bool, min}
+use Rattle.std.specs.Prelude.{ℕ, ◌+◌, ◌-◌, ◌/◌, List, [], ◌∷◌, ◌++◌, length, nat_lt, Option, Some, None, Result, Ok, Err, if◌then◌else◌}
+use Rattle.std.specs.Prelude.{bytes_eq, codes}
 use Rattle.std.specs.Str.{is_utf8}
 use Rattle.sim_base.specs.declared.mode.Mode.{Mode}
 use Rattle.sim_base.specs.declared.mode.Mode.TheVariants as modes
-use Rattle.toml.specs.Data.{Data, Items, Members}
+use Rattle.toml.specs.Data.{Members}
 use Rattle.toml.specs.Parse.{parse_document}
 use Rattle.sim_config.specs.declared.fault.ConfigFault.{ConfigFault}
 use Rattle.sim_config.specs.declared.fault.ConfigFault.TheVariants.{Broken}
-use Rattle.sim_config.specs.declared.fault.ConfigRule.{ConfigRule}
 use Rattle.sim_config.specs.declared.fault.ConfigRule.TheVariants.{TooLong, NotToml}
 use Rattle.sim_config.specs.declared.fault.TableNo.{TableNo}
 use Rattle.sim_config.specs.declared.fault.TableNo.TheVariants.{Top, Map, Range, Part, Link, Program}
@@ -18,7 +17,6 @@ use Rattle.sim_config.specs.declared.kinds.LinkKind.{LinkKind}
 use Rattle.sim_config.specs.declared.kinds.LinkKind.TheVariants as link_kinds
 use Rattle.sim_config.specs.declared.part_text.PartKeys.{PartKeys}
 use Rattle.sim_config.specs.declared.part_text.PartKeys.TheVariants as part_keys
-use Rattle.sim_config.specs.declared.link_text.PortRef.{PortRef}
 use Rattle.sim_config.specs.declared.link_text.LinkKeys.{LinkKeys}
 use Rattle.sim_config.specs.declared.link_text.LinkKeys.TheVariants as link_keys
 use Rattle.sim_config.specs.Keys

@@ -1,12 +1,10 @@
 -- What the tables of a configuration say, and the ranges and shapes that this keeps.
-use Rattle.std.specs.Prelude.{◌≡◌, ℕ, ◌+◌, ◌*◌, ◌<◌, ◌≤◌, List, length, All, IfSome, IsUtf8, Option, Some, None}
-use Rattle.sim_base.specs.declared.mode.Mode.{Mode}
+use Rattle.std.specs.Prelude.{ℕ, ◌+◌, ◌*◌, ◌<◌, ◌≤◌, List, length, IfSome, IsUtf8}
 use Rattle.sim_base.specs.declared.time.Time.{Time}
 use Rattle.sim_config.specs.declared.part_text.PartKeys.{PartKeys}
 use Rattle.sim_config.specs.declared.part_text.PartKeys.TheVariants.{Relay, Agent, Memory, Cache, Core}
 use Rattle.sim_config.specs.declared.link_text.PortRef.{PortRef}
 use Rattle.sim_config.specs.declared.link_text.LinkKeys.{LinkKeys}
-use Rattle.sim_config.specs.declared.keys.Allowed.{Allowed}
 use Rattle.sim_config.specs.Keys
 
 pub record RangeTable : Type 0 where

@@ -8,7 +8,7 @@ use Rattle.toml.specs.Data.{Data, string, integer, array, table, Items, no_items
 use Rattle.sim_config.specs.declared.fault.ConfigFault.{ConfigFault}
 use Rattle.sim_config.specs.declared.fault.ConfigFault.TheVariants.{Broken, OutOfMemory}
 use Rattle.sim_config.specs.declared.fault.ConfigRule.{ConfigRule}
-use Rattle.sim_config.specs.declared.fault.ConfigRule.TheVariants.{UnknownKey, Missing, WrongType, OutOfRange, NameShape, TooLong, NotToml}
+use Rattle.sim_config.specs.declared.fault.ConfigRule.TheVariants.{UnknownKey, Missing, WrongType, OutOfRange, NameShape}
 use Rattle.sim_config.specs.declared.fault.TableNo.{TableNo}
 use Rattle.sim_config.specs.declared.fault.Key.{Key}
 use Rattle.sim_config.specs.declared.link_text.PortRef.{PortRef}

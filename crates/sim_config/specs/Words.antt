@@ -1,12 +1,11 @@
 -- The words of a fault.
-use Rattle.std.specs.Prelude.{ℕ, List, [], ◌∷◌, ◌++◌, Option, Some, None, codes, decimal}
+use Rattle.std.specs.Prelude.{ℕ, List, ◌++◌, Some, None, codes, decimal}
 use Rattle.sim_config.specs.declared.fault.ConfigFault.{ConfigFault}
 use Rattle.sim_config.specs.declared.fault.ConfigFault.TheVariants.{Broken, OutOfMemory}
 use Rattle.sim_config.specs.declared.fault.ConfigRule.{ConfigRule}
 use Rattle.sim_config.specs.declared.fault.ConfigRule.TheVariants.{UnknownKey, Missing, WrongType, OutOfRange, NameShape, TooLong, NotToml}
 use Rattle.sim_config.specs.declared.fault.TableNo.{TableNo}
 use Rattle.sim_config.specs.declared.fault.TableNo.TheVariants.{Top, Map, Range, Part, Link, Program}
-use Rattle.sim_config.specs.declared.fault.Key.{Key}
 
 abbrev pub rule_words : ConfigRule → List ℕ
 rule_words TooLong = codes "too-long"
