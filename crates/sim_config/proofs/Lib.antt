@@ -1,0 +1,5 @@
+pub mod NameTests
+pub mod WordTests
+pub mod Fronts
+pub mod ItemLaws
+pub mod Defaults

@@ -1,0 +1,5 @@
+pub mod Keys
+pub mod Tables
+pub mod Values
+pub mod Meaning
+pub mod Words
