@@ -23,14 +23,14 @@ nothing_written None piece = record { count = 0; within = omega arith; left = re
 nothing_written (Some xs) piece = record { count = 0; within = omega arith; left = refl; got = sym (append-nil xs) }
 
 pub written_more : (old mid new : Option (List ℕ)) (piece rest : List ℕ) (n : ℕ) → HasWritten old mid piece rest → n ≤ length rest → Appends mid new (take n rest) → HasWritten old new piece (take (length rest - n) (drop n rest))
-written_more old mid new piece rest n h fits a = 
+written_more old mid new piece rest n h fits a =
     let far : length rest ≡ length piece - h.count = ap length h.left ∙ length-drop h.count piece in
     let next : Appends mid new (take n (drop h.count piece)) = subst (λ (r : List ℕ). Appends mid new (take n r)) h.left a in
     record {
-        count = h.count + n;
-        within = let w = h.within in omega arith;
-        left = take_all (length rest - n) (drop n rest) (simp length-drop (omega arith)) ∙ ap (drop n) h.left ∙ drop-drop n h.count piece;
-        got = Appends-more old mid new piece h.count n h.got next;
+      count = h.count + n;
+      within = let w = h.within in omega arith;
+      left = take_all (length rest - n) (drop n rest) (simp length-drop (omega arith)) ∙ ap (drop n) h.left ∙ drop-drop n h.count piece;
+      got = Appends-more old mid new piece h.count n h.got next;
     }
 
 pub written_part : (old new : Option (List ℕ)) (piece rest : List ℕ) → HasWritten old new piece rest → (k : ℕ) × Appends old new (take k piece)

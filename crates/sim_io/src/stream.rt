@@ -80,3 +80,78 @@ impl<W: Write> Sink for Stream<W> {
         Err(SinkFault)
     }
 }
+
+#[cfg(test)]
+mod tests {
+    use super::*;
+    use std::io;
+
+    /// A writer that is interrupted once, and then takes one byte a write, as many as it has room for.
+    #[derive(Drop)]
+    struct Slow {
+        interrupts: bool,
+        room: u8,
+    }
+
+    impl Write for Slow {
+        fn write(&mut self, buf: &[u8]) -> io::Result<usize> {
+            if self.interrupts {
+                self.interrupts = false;
+                return Err(io::Error::from(ErrorKind::Interrupted));
+            }
+            if self.room == 0 || buf.is_empty() {
+                return Ok(0);
+            }
+            self.room -= 1;
+            Ok(1)
+        }
+
+        fn flush(&mut self) -> io::Result<()> {
+            Ok(())
+        }
+    }
+
+    /// A writer that fails.
+    #[derive(Drop)]
+    struct Broken;
+
+    impl Write for Broken {
+        fn write(&mut self, _buf: &[u8]) -> io::Result<usize> {
+            Err(io::Error::from(ErrorKind::BrokenPipe))
+        }
+
+        fn flush(&mut self) -> io::Result<()> {
+            Ok(())
+        }
+    }
+
+    #[test]
+    fn a_piece_is_written_in_short_writes(rt: HostRuntime) {
+        let slow = Slow {
+            interrupts: true,
+            room: 5,
+        };
+        let mut stream = Stream::of(slow);
+        assert_eq!(rt; stream.write(b"abc"), Ok(()));
+        assert_eq!(rt; stream.writer.room, 2);
+        assert_eq!(rt; stream.write(b"def"), Err(SinkFault));
+        assert_eq!(rt; stream.writer.room, 0);
+        assert_eq!(rt; stream.faults, 1);
+    }
+
+    #[test]
+    fn a_failed_write_is_a_fault(rt: HostRuntime) {
+        let mut stream = Stream::of(Broken);
+        assert_eq!(rt; stream.write(b"abc"), Err(SinkFault));
+        assert_eq!(rt; stream.write(b"abc"), Err(SinkFault));
+        assert_eq!(rt; stream.faults, 2);
+    }
+
+    #[test]
+    fn standard_output_takes_a_line(rt: HostRuntime) {
+        let mut out = Stream::of(rt.stdout());
+        assert_eq!(rt; out.write(b"a line\n"), Ok(()));
+        let mut err = Stream::of(rt.stderr());
+        assert_eq!(rt; err.write(b"a line\n"), Ok(()));
+    }
+}
