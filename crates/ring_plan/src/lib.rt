@@ -5,4 +5,5 @@ mod names;
 mod plan;
 mod wiring;
 
+pub use names::{link_names, relay_names};
 pub use plan::{MOST_RELAYS, ring_plan};

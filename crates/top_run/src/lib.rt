@@ -1,0 +1,14 @@
+//! The program's calls: from its words to what it writes and the status that it ends with.
+#![tactic(auto)]
+
+mod command;
+
+mod refusal;
+mod run;
+mod status;
+mod top;
+mod words;
+
+pub use command::{Command, Ring};
+pub use top::plain;
+pub use status::Status;

@@ -1,0 +1,33 @@
+ghost use Rattle.std.specs.Prelude.{◌≡◌, IfOk, string_bytes};
+ghost use Rattle.top_run.specs.Top.{usage_line};
+
+use sim_base::OutOfMemory;
+use std::alloc::{AllocError, Global};
+
+/// Why a run of the program ends without a verdict.
+#[derive(Clone, Copy, Debug, PartialEq, Eq)]
+pub enum Refusal {
+    /// The words are not accepted, from this one on.
+    Usage(u32),
+    /// A write of the report failed.
+    Write,
+    OutOfMemory,
+}
+
+impl From<OutOfMemory> for Refusal {
+    ghost use Rattle.std.specs.Prelude.{◌≡◌};
+    ghost use Rattle.top_run.specs.declared.refusal.Refusal.TheVariants.{OutOfMemory};
+
+    ghost from_gives = { λ _ refusal. refusal ≡ OutOfMemory };
+
+    fn from(_fault: OutOfMemory) -> Self {
+        Refusal::OutOfMemory
+    }
+}
+
+/// The line of words that are refused.
+pub fn usage_line(alloc: Global, word: u32) -> Result<String, AllocError>
+    ensures { IfOk result (λ line. string_bytes line ≡ usage_line word) }
+{
+    format!(in alloc; "akita: usage: word {word}\n")
+}

@@ -1,0 +1,109 @@
+ghost use Rattle.std.specs.Prelude.{◌≡◌, ◌≢◌, ℕ, ◌+◌, ◌<◌, ◌≤◌, ⊥, ◌⊎◌, ◌↔◌, length, List, [], is_some, IsTrue, IfOk, IfSome, OnOk};
+ghost use Rattle.sim_io.specs.Sink.{Rose, Got, GotPrefix};
+ghost use Rattle.top_run.specs.Words.{spelled, InRange, Accepts, IsAccepted, RefusedAt};
+ghost use Rattle.top_run.specs.Top.{verdict_for, report_for, edges_for, status_of, IsVerdict, usage_line, write_line, memory_line};
+
+use crate::refusal::{Refusal, usage_line};
+use crate::run::run_command;
+use crate::status::Status;
+use crate::words::read_command;
+use sim_base::Steps;
+use sim_io::{Files, Sink};
+use std::alloc::Global;
+use std::sync::ledger::Ledger;
+use tick_law::Verdict;
+
+/// Writes a line of a refusal. A failure is told to nobody.
+fn tell<E: Sink>(err: &mut E, line: &[u8])
+    requires some { 0 < length line.now }
+    ensures { GotPrefix (E.told err.old) (E.told err.new) line.now }
+{
+    let _ = err.write(line);
+}
+
+fn tell_usage<E: Sink>(alloc: Global, err: &mut E, word: u32) -> Status
+    ensures either { (result.0 ≡ 2) ⊎ (result.0 ≡ 8) }
+    ensures usage { result.0 ≡ 2 → GotPrefix (E.told err.old) (E.told err.new) (usage_line word) }
+    ensures memory { result.0 ≡ 8 → GotPrefix (E.told err.old) (E.told err.new) memory_line }
+{
+    match usage_line(alloc, word) {
+        Ok(line) => {
+            tell(err, line.as_bytes());
+            Status(2)
+        }
+        Err(_) => {
+            tell(err, b"akita: memory\n");
+            Status(8)
+        }
+    }
+}
+
+fn write_report<K: Sink>(out: &mut K, report: &[u8]) -> Result<(), Refusal>
+    requires some { 0 < length report.now }
+    ensures ok { OnOk result (Got (K.told out.old) (K.told out.new) report.now) }
+    ensures write { result ≡ Err Refusal.Write → Rose (K.faults out.old) (K.faults out.new) × GotPrefix (K.told out.old) (K.told out.new) report.now }
+    ensures only_write { (k : ℕ) → result ≢ Err (Refusal.Usage k) }
+    ensures no_memory { result ≢ Err Refusal.OutOfMemory }
+{
+    out.write(report).map_err(|_| Refusal::Write)
+}
+
+fn run_words<K: Sink, L: Ledger>(
+    alloc: Global,
+    words: &[String],
+    out: &mut K,
+    steps: &mut Steps<L>,
+) -> Result<Verdict, Refusal>
+    ensures ran { IfOk result (λ verdict. (command : Command) × Accepts (spelled words.now) command × (verdict ≡ verdict_for command) × Got (K.told out.old) (K.told out.new) (report_for command) × (steps.new ≡ steps.old + edges_for command)) }
+    ensures usage { (k : ℕ) → result ≡ Err (Refusal.Usage k) → RefusedAt (spelled words.now) k × (out.new ≡ out.old) }
+    ensures write { result ≡ Err Refusal.Write → (command : Command) × Accepts (spelled words.now) command × Rose (K.faults out.old) (K.faults out.new) × GotPrefix (K.told out.old) (K.told out.new) (report_for command) }
+    ensures memory { result ≡ Err Refusal.OutOfMemory → out.new ≡ out.old }
+{
+    let command = read_command(alloc, words)?;
+    let shown = run_command(alloc, command, steps)?;
+    write_report(out, shown.report.items())?;
+    Ok(shown.verdict)
+}
+
+/// Runs the program on its words, and answers the status that it ends with. It waits for nobody.
+///
+/// The report goes to `out`. Every refusal is one line on `err`: `akita: usage: word K` names the first word that no accepted
+/// list of words has there, `akita: write` a failed write of the report, `akita: memory` want of memory. A failure of `err`
+/// changes no status. No file is read.
+pub fn plain<F: Files, K: Sink, E: Sink, L: Ledger>(
+    alloc: Global,
+    words: &[String],
+    files: &mut F,
+    out: &mut K,
+    err: &mut E,
+    steps: &mut Steps<L>,
+) -> Option<Status>
+    ensures some { is_some result ≡ true }
+    ensures statuses { IfSome result (λ s. IsVerdict s.0 ⊎ ((s.0 ≡ 2) ⊎ ((s.0 ≡ 6) ⊎ (s.0 ≡ 8)))) }
+
+    ensures ran { IfSome result (λ s. IsVerdict s.0 → (command : Command) × Accepts (spelled words.now) command × (s.0 ≡ status_of (verdict_for command)) × Got (K.told out.old) (K.told out.new) (report_for command) × (steps.new ≡ steps.old + edges_for command)) }
+    ensures silent { IfSome result (λ s. IsVerdict s.0 → err.new ≡ err.old) }
+
+    ensures usage { IfSome result (λ s. s.0 ≡ 2 → (k : ℕ) × RefusedAt (spelled words.now) k × GotPrefix (E.told err.old) (E.told err.new) (usage_line k)) }
+    ensures refused { (IsAccepted (spelled words.now) → ⊥) → IfSome result (λ s. (s.0 ≡ 2) ⊎ (s.0 ≡ 8)) }
+    ensures accepted { IsAccepted (spelled words.now) → IfSome result (λ s. s.0 ≢ 2) }
+    ensures unwritten { IfSome result (λ s. s.0 ≡ 2 → out.new ≡ out.old) }
+
+    ensures write { IfSome result (λ s. s.0 ≡ 6 → (command : Command) × Accepts (spelled words.now) command × Rose (K.faults out.old) (K.faults out.new) × GotPrefix (K.told out.old) (K.told out.new) (report_for command) × GotPrefix (E.told err.old) (E.told err.new) write_line) }
+    ensures memory { IfSome result (λ s. s.0 ≡ 8 → (out.new ≡ out.old) × GotPrefix (E.told err.old) (E.told err.new) memory_line) }
+    ensures files { files.new ≡ files.old }
+{
+    let status = match run_words(alloc, words, out, steps) {
+        Ok(verdict) => Status::of(verdict),
+        Err(Refusal::Usage(word)) => tell_usage(alloc, err, word),
+        Err(Refusal::Write) => {
+            tell(err, b"akita: write\n");
+            Status(6)
+        }
+        Err(Refusal::OutOfMemory) => {
+            tell(err, b"akita: memory\n");
+            Status(8)
+        }
+    };
+    Some(status)
+}
