@@ -249,11 +249,8 @@ impl Memory {
             return false;
         }
         let deadline = cycle + u64::from(self.latency);
-        if self
-            .queue
-            .try_push_back(Waiting { request, deadline })
-            .is_err()
-        {
+        let waiting = Waiting { request, deadline };
+        if self.queue.try_push_back(waiting).is_err() {
             return false;
         }
         let _ = port.in_take();
@@ -284,9 +281,9 @@ impl Actor for Memory {
     }
 
     fn due(&self, cycle: u64) -> Option<u64> {
-        let first = self.queue.front()?;
-        if first.deadline > cycle {
-            Some(first.deadline)
+        let deadline = self.queue.front()?.deadline;
+        if deadline > cycle {
+            Some(deadline)
         } else {
             None
         }
