@@ -13,7 +13,7 @@ use Rattle.tick_law.specs.Quiet.{Quiet, IsBelow}
 use Rattle.tick_law.specs.FrameLaws.{frames_same}
 use Rattle.tick_law.specs.OnePort.{Act, nothing, then_rule, head_of, has_room}
 use Rattle.tick_law.specs.OnePortLaws.{Kept, kept_nothing, kept_where, kept_then, where_failed, where_false, then_nothing, then_flag, or_left, taken_framed, taken_ok, sent_framed, sent_ok}
-use Rattle.tick_law.specs.TimerLaws.{above_later, above_steady, not_yet}
+use Rattle.tick_law.specs.TimerLaws.{above_later, above_steady, not_yet, set_early, time_early}
 use Rattle.mem_ctrl.specs.declared.waiting.Waiting.{Waiting}
 use Rattle.mem_ctrl.specs.Memory.{MemoryState, IsWaiting, IsMemory, filled, accepts, place_of, put_over, answer, stored, served, serve_of, serve, waiting_from, taken, has_place, take_of, take_request, deadline_of, memory, is_write}
 
@@ -65,10 +65,6 @@ first_waits : (P : Waiting → Type 0) (ws : List Waiting) (w : Waiting) → sli
 first_waits P [] w e a = absurd (cc)
 first_waits P (x ∷ ws) w e a = let same : x ≡ w = cc in subst P same (All-head P x ws a)
 
--- a deadline is no later than any that a request can get
-deadline_early : (n latency period : ℕ) → n * period ≤ 501000000000 → latency ≤ 1000000 → (n + latency) * period ≤ 501000000000 + 1000000 * period
-deadline_early n latency period e l = grind (arith, common_steps)
-
 served_valid : (s : MemoryState) (p : PortView) (w : Waiting) → slice_get s.queue 0 ≡ Some w → IsMemory s → IsMemory (served s p w.request).state
 served_valid s p w e v =
     let same : length (stored s w.request) ≡ length s.bytes = length_stored s w.request (first_waits (IsWaiting s.base (length s.bytes) s.period) s.queue w e v.waiting).accepted in
@@ -114,7 +110,7 @@ joined_queue s queue depth n m v a b e f = record {
   depth_most = rw f v.depth_most;
   size_most = v.size_most;
   within_addresses = v.within_addresses;
-  waiting = rw e (All-push (IsWaiting s.base (length s.bytes) s.period) s.queue (waiting_from s m n) v.waiting (record { accepted = a; early = deadline_early n s.latency s.period b v.latency_short }));
+  waiting = rw e (All-push (IsWaiting s.base (length s.bytes) s.period) s.queue (waiting_from s m n) v.waiting (record { accepted = a; early = set_early n s.latency s.period b v.latency_short }));
 }
 
 taken_valid : (n : ℕ) (s : MemoryState) (p : PortView) (m : Msg) → accepts s.base (length s.bytes) m ≡ true → IsMemory s → n * s.period ≤ 501000000000 → IsMemory (taken s p m n).state
@@ -204,10 +200,6 @@ memory_quiet s (p ∷ ps) n v e f =
     later : (others : List PortView) (k : ℕ) → SameFaces true (p ∷ ps) others → n < k → IsBelow k (deadline_of (slice_get s.queue 0) n) → (memory.step s others k).flag ≡ false
     later [] k h l b = absurd h
     later (q ∷ qs) k h l b = both_later s p q n k h.0.1 h.0.0 b f
-
--- a deadline that a request can have lies below 2^50 ps
-time_early : (deadline period : ℕ) → deadline * period ≤ 501000000000 + 1000000 * period → period ≤ 1000000000 → deadline * period < 2 ^ 50
-time_early deadline period e s = omega arith
 
 pub memory_due_later : (s : MemoryState) (n t : ℕ) → IsMemory s → memory.due s n ≡ Some t → (n < t) × (t * s.period < 2 ^ 50)
 memory_due_later s n t v e = by_head (slice_get s.queue 0) refl e
