@@ -103,7 +103,7 @@ fn carry(from: &mut Port, to: &mut Port) {
 
 /// The cycles at which an agent sent and took, and a memory took and answered.
 #[derive(Drop)]
-struct Times {
+struct Timeline {
     sent: Vec<u64>,
     answers: Vec<u64>,
     taken: Vec<u64>,
@@ -118,7 +118,7 @@ fn times<L: Ledger>(
     memory: &mut Memory,
     every: u64,
     end: u64,
-) -> Result<Times, OutOfMemory>
+) -> Result<Timeline, OutOfMemory>
     requires name { blank.name ≡ L.name }
     requires parts { blank.parts ≡ L.parts }
     requires some { 0 < blank.parts }
@@ -127,7 +127,7 @@ fn times<L: Ledger>(
     let mut steps = Steps::<L>::open(blank);
     let mut io = [Port::open(alloc, 1)?];
     let mut top = [Port::open(alloc, 1)?];
-    let mut times = Times {
+    let mut times = Timeline {
         sent: Vec::new(alloc),
         answers: Vec::new(alloc),
         taken: Vec::new(alloc),
