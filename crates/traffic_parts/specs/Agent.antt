@@ -1,5 +1,5 @@
 -- An agent: what its state is, and what it does in a step.
-use Rattle.std.specs.Prelude.{◌≡◌, ℕ, ◌+◌, ◌-◌, ◌*◌, ◌%◌, ◌^◌, ◌<◌, ◌≤◌, ◌==◌, ◌&&◌, ◌++◌, List, [], ◌∷◌, drop, Option, Some, None, Bool, true, false, cond, nat_lt, nat_le, replicate}
+use Rattle.std.specs.Prelude.{ℕ, ◌+◌, ◌-◌, ◌*◌, ◌%◌, ◌^◌, ◌<◌, ◌≤◌, ◌==◌, ◌&&◌, ◌++◌, List, [], ◌∷◌, drop, Option, Some, None, Bool, true, false, cond, nat_lt, nat_le, replicate}
 use Rattle.std.specs.Int.{w32, to_le_bytes, from_le_bytes}
 use Rattle.port_msg.specs.PortView.{PortView}
 use Rattle.port_msg.specs.declared.message.Msg.{Msg}

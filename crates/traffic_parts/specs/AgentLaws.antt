@@ -5,13 +5,12 @@ use Rattle.std.proofs.lemmas.Bool.Decides.{nat_tests}
 use Rattle.port_msg.specs.PortView.{PortView}
 use Rattle.port_msg.specs.declared.message.Msg.{Msg}
 use Rattle.sim_base.specs.declared.numbers.PortNo.{PortNo}
-use Rattle.tick_law.specs.Frame.{IsPort, AllPorts, Framed}
+use Rattle.tick_law.specs.Frame.{AllPorts, Framed}
 use Rattle.tick_law.specs.Face.{SameFaces}
 use Rattle.tick_law.specs.Quiet.{Quiet, IsBelow}
 use Rattle.tick_law.specs.FrameLaws.{frames_same}
-use Rattle.tick_law.specs.OnePort.{Act, nothing, act_where, then_rule, head_of, has_room}
-use Rattle.tick_law.specs.OnePortLaws.{Kept, kept_nothing, kept_where, kept_then, where_failed, where_false, then_nothing, then_flag, or_left, or_right, taken_framed, taken_ok, sent_framed, sent_ok}
-use Rattle.tick_law.specs.Timer.{timer_above}
+use Rattle.tick_law.specs.OnePort.{Act, nothing, then_rule, head_of, has_room}
+use Rattle.tick_law.specs.OnePortLaws.{Kept, kept_nothing, kept_where, kept_then, where_failed, where_false, then_nothing, then_flag, or_left, taken_framed, taken_ok, sent_framed, sent_ok}
 use Rattle.tick_law.specs.TimerLaws.{above_later, above_steady, not_yet, set_early, time_early}
 use Rattle.traffic_parts.specs.Agent.{AgentState, IsAgent, is_answer, answer_taken, answer_of, take_answer, request, is_open, is_ready, drawn, target, request_sent, request_where, send_request, next_of, agent}
 

@@ -1,4 +1,4 @@
-use Rattle.std.specs.Prelude.{◌≡◌, List, AllPairs}
+use Rattle.std.specs.Prelude.{List, AllPairs}
 use Rattle.std.proofs.Common.{subst, sym}
 use Rattle.addr_map.specs.Range.{Apart}
 use Rattle.addr_map.specs.declared.range.Range.{Range}
