@@ -1,0 +1,157 @@
+ghost use Rattle.std.specs.Prelude.{◌≡◌, ℕ, ◌+◌, ◌-◌, ◌^◌, ◌<◌, ◌≤◌, min, length, take, is_ok, true, unwrap_or, OnOk, OnErr, if◌then◌else◌};
+ghost use Rattle.std.specs.Io.KnownBytes.{Appends};
+ghost use Rattle.sim_io.specs.Sink.{Rose};
+
+use crate::sink::{Sink, SinkFault};
+use std::io::{ErrorKind, Write};
+
+/// A sink over a writer, as standard output. It tells nothing, and hands each piece on at once.
+#[derive(Drop)]
+pub struct Stream<W> {
+    pub writer: W,
+    pub faults: u64,
+}
+
+/// How many of these bytes the writer took: none where it was interrupted, and None where it failed.
+fn taken_by<W: Write>(writer: &mut W, rest: &[u8]) -> Option<usize>
+    ensures within { unwrap_or result 0 ≤ length rest.now }
+    ensures bytes { Appends (W.contents writer.old) (W.contents writer.new) (take (unwrap_or result 0) rest.now) }
+{
+    match writer.write(rest) {
+        Ok(0) => None,
+        Ok(taken) => Some(taken),
+        Err(error) if error.kind() == ErrorKind::Interrupted => Some(0),
+        Err(_) => None,
+    }
+}
+
+#[tactic(auto, using(crate::proofs::Writing::writing))]
+/// Writes the piece from its front on, as often as the writer takes less than it is given, and answers whether all was written.
+fn write_whole<W: Write>(writer: &mut W, piece: &[u8]) -> bool
+    requires some { 0 < length piece.now }
+
+    ensures all { result ≡ true → Appends (W.contents writer.old) (W.contents writer.new) piece.now }
+    ensures prefix { (k : ℕ) × Appends (W.contents writer.old) (W.contents writer.new) (take k piece.now) }
+{
+    let mut rest = piece;
+    for _turn in 0..u64::MAX {
+        let Some(taken) = taken_by(writer, rest) else {
+            return false;
+        };
+        rest = &rest[taken..];
+        if rest.is_empty() {
+            return true;
+        }
+    }
+    false
+}
+
+impl<W: Write> Stream<W> {
+    pub fn of(writer: W) -> Self
+        ensures { result ≡ record { writer = writer; faults = 0 } }
+    {
+        Stream { writer, faults: 0 }
+    }
+}
+
+impl<W: Write> Sink for Stream<W> {
+    ghost use Rattle.std.specs.Prelude.{None};
+
+    ghost faults = { λ s. s.faults };
+
+    ghost told = { λ _. None };
+
+    /// A writer that takes no byte, or answers an error other than an interruption, has failed.
+    fn write(&mut self, piece: &[u8]) -> Result<(), SinkFault>
+        requires some { 0 < length piece.now }
+
+        ensures fault { OnErr result (Rose self.old.faults self.new.faults) }
+
+        ensures never_falls { self.old.faults ≤ self.new.faults }
+
+        ensures written { OnOk result (Appends (W.contents self.old.writer) (W.contents self.new.writer) piece.now) }
+        ensures begun { OnErr result ((k : ℕ) × Appends (W.contents self.old.writer) (W.contents self.new.writer) (take k piece.now)) }
+        ensures faults { self.new.faults ≡ (if is_ok result then self.old.faults else min (self.old.faults + 1) (2 ^ 64 - 1)) }
+    {
+        if write_whole(&mut self.writer, piece) {
+            return Ok(());
+        }
+        self.faults = self.faults.saturating_add(1);
+        Err(SinkFault)
+    }
+}
+
+#[cfg(test)]
+mod tests {
+    use super::*;
+    use std::io;
+
+    /// A writer that is interrupted once, and then takes one byte a write, as many as it has room for.
+    #[derive(Drop)]
+    struct Slow {
+        interrupts: bool,
+        room: u8,
+    }
+
+    impl Write for Slow {
+        fn write(&mut self, buf: &[u8]) -> io::Result<usize> {
+            if self.interrupts {
+                self.interrupts = false;
+                return Err(io::Error::from(ErrorKind::Interrupted));
+            }
+            if self.room == 0 || buf.is_empty() {
+                return Ok(0);
+            }
+            self.room -= 1;
+            Ok(1)
+        }
+
+        fn flush(&mut self) -> io::Result<()> {
+            Ok(())
+        }
+    }
+
+    /// A writer that fails.
+    #[derive(Drop)]
+    struct Broken;
+
+    impl Write for Broken {
+        fn write(&mut self, _buf: &[u8]) -> io::Result<usize> {
+            Err(io::Error::from(ErrorKind::BrokenPipe))
+        }
+
+        fn flush(&mut self) -> io::Result<()> {
+            Ok(())
+        }
+    }
+
+    #[test]
+    fn a_piece_is_written_in_short_writes(rt: HostRuntime) {
+        let slow = Slow {
+            interrupts: true,
+            room: 5,
+        };
+        let mut stream = Stream::of(slow);
+        assert_eq!(rt; stream.write(b"abc"), Ok(()));
+        assert_eq!(rt; stream.writer.room, 2);
+        assert_eq!(rt; stream.write(b"def"), Err(SinkFault));
+        assert_eq!(rt; stream.writer.room, 0);
+        assert_eq!(rt; stream.faults, 1);
+    }
+
+    #[test]
+    fn a_failed_write_is_a_fault(rt: HostRuntime) {
+        let mut stream = Stream::of(Broken);
+        assert_eq!(rt; stream.write(b"abc"), Err(SinkFault));
+        assert_eq!(rt; stream.write(b"abc"), Err(SinkFault));
+        assert_eq!(rt; stream.faults, 2);
+    }
+
+    #[test]
+    fn standard_output_takes_a_line(rt: HostRuntime) {
+        let mut out = Stream::of(rt.stdout());
+        assert_eq!(rt; out.write(b"a line\n"), Ok(()));
+        let mut err = Stream::of(rt.stderr());
+        assert_eq!(rt; err.write(b"a line\n"), Ok(()));
+    }
+}
