@@ -1,10 +1,10 @@
 ghost use Rattle.part_kind.specs.LinkKind.{link, IsValid, link_framed, link_stays, link_quiet, link_due_later, link_due_steady, link_period_within};
 
+use direct_link::Direct;
 use port_msg::{Port, RecList};
 use sim_base::Steps;
 use std::sync::ledger::Ledger;
 use tick_law::Actor;
-use direct_link::Direct;
 
 /// A link of any kind.
 #[derive(Drop)]

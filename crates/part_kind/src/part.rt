@@ -1,15 +1,18 @@
 ghost use Rattle.part_kind.specs.Part.{part, IsValid, part_framed, part_stays, part_quiet, part_due_later, part_due_steady, part_period_within};
 
+use mem_ctrl::Memory;
 use port_msg::{Port, RecList};
 use sim_base::Steps;
 use std::sync::ledger::Ledger;
 use tick_law::Actor;
-use traffic_parts::Relay;
+use traffic_parts::{Agent, Relay};
 
 /// A part of any kind.
 #[derive(Drop)]
 pub enum Part {
     Relay(Relay),
+    Agent(Agent),
+    Memory(Memory),
 }
 
 impl Actor for Part {
@@ -26,30 +29,40 @@ impl Actor for Part {
     ) -> bool {
         match self {
             Part::Relay(relay) => relay.tick(ports, cycle, recs, steps),
+            Part::Agent(agent) => agent.tick(ports, cycle, recs, steps),
+            Part::Memory(memory) => memory.tick(ports, cycle, recs, steps),
         }
     }
 
     fn due(&self, cycle: u64) -> Option<u64> {
         match self {
             Part::Relay(relay) => relay.due(cycle),
+            Part::Agent(agent) => agent.due(cycle),
+            Part::Memory(memory) => memory.due(cycle),
         }
     }
 
     fn period(&self) -> u64 {
         match self {
             Part::Relay(relay) => relay.period(),
+            Part::Agent(agent) => agent.period(),
+            Part::Memory(memory) => memory.period(),
         }
     }
 
     fn done(&self) -> bool {
         match self {
             Part::Relay(relay) => relay.done(),
+            Part::Agent(agent) => agent.done(),
+            Part::Memory(memory) => memory.done(),
         }
     }
 
     fn known(&self) {
         match self {
             Part::Relay(relay) => relay.known(),
+            Part::Agent(agent) => agent.known(),
+            Part::Memory(memory) => memory.known(),
         }
     }
 

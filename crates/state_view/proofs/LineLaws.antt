@@ -1,8 +1,8 @@
 -- One line more, and lines that follow one another.
-use Rattle.std.proofs.Common.{◌≡◌, ℕ, ◌+◌, ◌<◌, List, [], ◌∷◌, ◌++◌, length, take, zero, suc, sym, ◌∙◌, ap, arith, refl, append_assoc, append-nil, get_or}
-use Rattle.std.specs.Prelude.{Option, Some, None, slice_get, Result, Ok, Err, OnOk}
+use Rattle.std.proofs.Common.{◌≡◌, ℕ, ◌<◌, List, [], ◌∷◌, ◌++◌, length, take, zero, suc, sym, ◌∙◌, ap, arith, refl, append_assoc, append-nil}
+use Rattle.std.specs.Prelude.{Option, Some, slice_get, Result, Ok, Err, OnOk}
 use Rattle.tick_law.specs.WorldPlaces.{IsFull, somes, alls}
-use Rattle.state_view.specs.Report.{lines_of, line_by, line_at}
+use Rattle.state_view.specs.Report.{lines_of, line_at}
 
 pub lines_more : {S : Type 0} (line : List ℕ → S → List ℕ) (names : List (List ℕ)) (states : List S) (k : ℕ) → k < length states → length names ≡ length states → lines_of line (take (suc k) names) (take (suc k) states) ≡ lines_of line (take k names) (take k states) ++ line_at line names states k
 lines_more line names [] k b e = absurd (omega arith)

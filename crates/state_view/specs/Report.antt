@@ -5,9 +5,11 @@ use Rattle.tick_law.specs.SerialLoop.{WorldState}
 use Rattle.tick_law.specs.declared.verdict.Verdict.{Verdict}
 use Rattle.tick_law.specs.declared.verdict.Verdict.TheVariants.{Finished, Stuck, Cut}
 use Rattle.traffic_parts.specs.Relay.{RelayState, relay}
+use Rattle.traffic_parts.specs.Agent.{AgentState, agent}
+use Rattle.mem_ctrl.specs.Memory.{MemoryState, memory}
 use Rattle.direct_link.specs.Direct.{DirectState}
 use Rattle.part_kind.specs.declared.part.Part.{Part}
-use Rattle.part_kind.specs.declared.part.Part.TheVariants.{Relay}
+use Rattle.part_kind.specs.declared.part.Part.TheVariants.{Relay, Agent, Memory}
 use Rattle.part_kind.specs.declared.link_kind.LinkKind.{LinkKind}
 use Rattle.part_kind.specs.declared.link_kind.LinkKind.TheVariants.{Direct}
 
@@ -31,6 +33,14 @@ head_lines verdict end budget = codes "verdict " ++ verdict_word verdict ++ code
 abbrev pub relay_line : List ℕ → RelayState → List ℕ
 relay_line name s = codes "part " ++ name ++ codes " relay " ++ done_word (relay.done s) ++ codes " sent " ++ decimal s.sent ++ codes " ended " ++ decimal s.ended ++ line_feed
 
+-- `part NAME agent W issued I answered A sum S`
+abbrev pub agent_line : List ℕ → AgentState → List ℕ
+agent_line name s = codes "part " ++ name ++ codes " agent " ++ done_word (agent.done s) ++ codes " issued " ++ decimal s.issued ++ codes " answered " ++ decimal s.answered ++ codes " sum " ++ decimal s.total ++ line_feed
+
+-- `part NAME memory W served S`
+abbrev pub memory_line : List ℕ → MemoryState → List ℕ
+memory_line name s = codes "part " ++ name ++ codes " memory " ++ done_word (memory.done s) ++ codes " served " ++ decimal s.served ++ line_feed
+
 abbrev pub direct_counts : DirectState → List ℕ
 direct_counts s = codes " direct moved " ++ decimal s.moved ++ codes " pointer " ++ decimal s.pointer ++ line_feed
 
@@ -40,6 +50,8 @@ direct_line name s = codes "link " ++ name ++ direct_counts s
 
 abbrev pub part_line : List ℕ → Part → List ℕ
 part_line name (Relay s) = relay_line name s
+part_line name (Agent s) = agent_line name s
+part_line name (Memory s) = memory_line name s
 
 abbrev pub link_line : List ℕ → LinkKind → List ℕ
 link_line name (Direct s) = direct_line name s

@@ -1,12 +1,13 @@
 ghost use Rattle.std.specs.Prelude.{◌≡◌, ◌++◌, OnOk};
-ghost use Rattle.state_view.specs.Report.{verdict_word, done_word, head_lines, relay_line, direct_counts, direct_line, part_line, link_line};
+ghost use Rattle.state_view.specs.Report.{verdict_word, done_word, head_lines, relay_line, agent_line, memory_line, direct_counts, direct_line, part_line, link_line};
 
 use crate::text::Text;
 use direct_link::Direct;
+use mem_ctrl::Memory;
 use part_kind::{LinkKind, Part};
 use sim_base::{Name, OutOfMemory, Time};
 use tick_law::{Actor, Verdict};
-use traffic_parts::Relay;
+use traffic_parts::{Agent, Relay};
 
 fn verdict_word(verdict: Verdict) -> &'static [u8]
     ensures { result.now ≡ verdict_word verdict }
@@ -56,6 +57,34 @@ fn put_relay(text: &mut Text, name: &Name, relay: &Relay) -> Result<(), OutOfMem
     text.put(b"\n")
 }
 
+fn put_agent(text: &mut Text, name: &Name, agent: &Agent) -> Result<(), OutOfMemory>
+    ensures { OnOk result (text.new ≡ text.old ++ agent_line name.now agent.now) }
+{
+    text.put(b"part ")?;
+    text.put(name.text())?;
+    text.put(b" agent ")?;
+    text.put(done_word(agent.done()))?;
+    text.put(b" issued ")?;
+    text.small_number(agent.issued())?;
+    text.put(b" answered ")?;
+    text.small_number(agent.answered())?;
+    text.put(b" sum ")?;
+    text.small_number(agent.sum())?;
+    text.put(b"\n")
+}
+
+fn put_memory(text: &mut Text, name: &Name, memory: &Memory) -> Result<(), OutOfMemory>
+    ensures { OnOk result (text.new ≡ text.old ++ memory_line name.now memory.now) }
+{
+    text.put(b"part ")?;
+    text.put(name.text())?;
+    text.put(b" memory ")?;
+    text.put(done_word(memory.done()))?;
+    text.put(b" served ")?;
+    text.number(memory.served())?;
+    text.put(b"\n")
+}
+
 fn put_counts(text: &mut Text, link: &Direct) -> Result<(), OutOfMemory>
     ensures { OnOk result (text.new ≡ text.old ++ direct_counts link.now) }
 {
@@ -80,6 +109,8 @@ pub fn put_part(text: &mut Text, name: &Name, part: &Part) -> Result<(), OutOfMe
 {
     match part {
         Part::Relay(relay) => put_relay(text, name, relay),
+        Part::Agent(agent) => put_agent(text, name, agent),
+        Part::Memory(memory) => put_memory(text, name, memory),
     }
 }
 

@@ -1,4 +1,4 @@
-use Rattle.std.proofs.Common.{◌≡◌, ◌+◌, ◌<◌, ◌++◌, length, take, suc, sym, ◌∙◌, ap, arith, add-one, append_assoc}
+use Rattle.std.proofs.Common.{◌≡◌, ◌<◌, ◌++◌, length, take, sym, ◌∙◌, ap, arith, add-one, append_assoc}
 use Rattle.tick_law.specs.WorldPlaces.{somes}
 use Rattle.state_view.specs.Report.{lines_of, line_at, part_line}
 use Rattle.state_view.proofs.LineLaws.{lines_more, full_length}

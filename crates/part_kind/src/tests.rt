@@ -1,0 +1,313 @@
+ghost use Rattle.std.specs.Prelude.{◌≡◌, ◌*◌, ◌<◌, ◌≤◌, [], ◌∷◌, length, IfOk};
+
+use addr_map::{Range, Ranges, Targets};
+use mem_ctrl::{Memory, MemoryText};
+use port_msg::{DATA_BYTES, Msg, MsgId, MsgKind, Port, RecList, What};
+use sim_base::{ActorNo, Body, Mode, OutOfMemory, PartNo, PortNo, Steps};
+use std::alloc::Global;
+use std::marker::Brand;
+use std::sync::ledger::{Blank, Ledger};
+use tick_law::Actor;
+use traffic_parts::{Agent, AgentText};
+
+/// The addresses from 0 to 511, at one port.
+fn ranges_to(alloc: Global, to: PortNo) -> Result<Ranges, OutOfMemory>
+    ensures { IfOk result (λ ranges. ranges ≡ (record { base = 0; size = 512; granule = 64; to = to ∷ [] }) ∷ []) }
+{
+    let mut targets = Vec::new(alloc);
+    targets.push(to)?;
+    let mut ranges = Vec::new(alloc);
+    ranges.push(Range {
+        base: 0,
+        size: 512,
+        granule: 64,
+        to: Targets::of(targets),
+    })?;
+    Ok(Ranges::of(ranges))
+}
+
+/// An agent at port 0 that asks for 64 bytes at port 1.
+fn open_agent(alloc: Global, period: u64, count: u32, mode: Mode) -> Result<Agent, OutOfMemory>
+    requires some { 1 ≤ period }
+    requires short { period ≤ 1000000000 }
+    requires count { count ≤ 1000000 }
+{
+    let text = AgentText {
+        actor: ActorNo(0),
+        period,
+        io: PortNo(0),
+        map: ranges_to(alloc, PortNo(1))?,
+        base: 0,
+        span: 64,
+        count,
+        window: 3,
+        gap: 1,
+        start: 0,
+        mode,
+        draw: 1,
+    };
+    Agent::open(alloc, &text)
+}
+
+/// A memory of 512 bytes at port 1, all of them 7, in which one request can wait.
+fn open_memory(alloc: Global, period: u64, base: u32, latency: u32) -> Result<Memory, OutOfMemory>
+    requires some { 1 ≤ period }
+    requires short { period ≤ 1000000000 }
+    requires base { base ≤ 1000000 }
+    requires latency { latency ≤ 1000000 }
+{
+    let bytes: Vec<u8> = vec![in alloc; 7; 512]?;
+    let text = MemoryText {
+        actor: ActorNo(1),
+        period,
+        top: PortNo(1),
+        base,
+        size: 512,
+        latency,
+        depth: 1,
+        bytes: Body::of(bytes),
+    };
+    Memory::open(alloc, &text)
+}
+
+/// The first thing that an actor with one port does in a step at a cycle.
+fn first_done<A: Actor, L: Ledger>(
+    alloc: Global,
+    actor: &mut A,
+    ports: &mut [Port],
+    cycle: u64,
+    steps: &mut Steps<L>,
+) -> Result<Option<What>, OutOfMemory>
+    requires own { length ports.old ≡ A.machine.own actor.old }
+    requires one { length ports.old ≡ 1 }
+{
+    if cycle.saturating_mul(actor.period()) > 501_000_000_000 {
+        return Ok(None);
+    }
+    let mut recs = RecList::open(alloc, 64)?;
+    let _ = actor.tick(ports, cycle, &mut recs, steps);
+    match recs.items() {
+        [first, ..] => Ok(Some(first.what)),
+        [] => Ok(None),
+    }
+}
+
+/// Moves a message from one port to another, where there is one and room.
+fn carry(from: &mut Port, to: &mut Port) {
+    if let Some(msg) = from.out_head() {
+        if to.deliver(msg).is_ok() {
+            let _ = from.out_take();
+        }
+    }
+}
+
+/// The cycles at which an agent sent and took, and a memory took and answered.
+#[derive(Drop)]
+struct Timeline {
+    sent: Vec<u64>,
+    answers: Vec<u64>,
+    taken: Vec<u64>,
+    served: Vec<u64>,
+}
+
+/// Steps an agent at each time and a memory at each tenth or each, and carries messages after both.
+fn times<L: Ledger>(
+    alloc: Global,
+    blank: Blank,
+    agent: &mut Agent,
+    memory: &mut Memory,
+    every: u64,
+    end: u64,
+) -> Result<Timeline, OutOfMemory>
+    requires name { blank.name ≡ L.name }
+    requires parts { blank.parts ≡ L.parts }
+    requires some { 0 < blank.parts }
+    requires every { 0 < every }
+{
+    let mut steps = Steps::<L>::open(blank);
+    let mut io = [Port::open(alloc, 1)?];
+    let mut top = [Port::open(alloc, 1)?];
+    let mut times = Timeline {
+        sent: Vec::new(alloc),
+        answers: Vec::new(alloc),
+        taken: Vec::new(alloc),
+        served: Vec::new(alloc),
+    };
+    for time in 0..end {
+        match first_done(alloc, agent, &mut io, time, &mut steps)? {
+            Some(What::Send(_)) => times.sent.push(time)?,
+            Some(What::Take(_)) => times.answers.push(time)?,
+            _ => {}
+        }
+        if time % every == 0 {
+            match first_done(alloc, memory, &mut top, time / every, &mut steps)? {
+                Some(What::Send(_)) => times.served.push(time)?,
+                Some(What::Take(_)) => times.taken.push(time)?,
+                _ => {}
+            }
+        }
+        carry(&mut io[0], &mut top[0]);
+        carry(&mut top[0], &mut io[0]);
+    }
+    Ok(times)
+}
+
+#[test]
+fn an_agent_waits_for_room_in_a_slow_memory(rt: HostRuntime) -> Result<(), OutOfMemory> {
+    let alloc = rt.alloc();
+    let mut agent = open_agent(alloc, 1, 3, Mode::Read)?;
+    let mut memory = open_memory(alloc, 10, 0, 1)?;
+    let times = times::<Brand>(alloc, Blank::new(1), &mut agent, &mut memory, 10, 50)?;
+    assert_eq!(rt; times.sent.as_slice(), [0, 1, 11].as_slice());
+    assert_eq!(rt; times.answers.as_slice(), [21, 31, 41].as_slice());
+    assert_eq!(rt; agent.issued(), 3);
+    assert_eq!(rt; agent.answered(), agent.count());
+    assert_eq!(rt; agent.sum(), 3 * 0x0707_0707);
+    assert_eq!(rt; agent.next(), 12);
+    assert_eq!(rt; memory.served(), 3);
+    assert_eq!(rt; memory.queue(), 0);
+    assert!(rt; agent.done() && memory.done());
+    Ok(())
+}
+
+#[test]
+fn a_request_is_served_the_latency_after_it_was_taken(rt: HostRuntime) -> Result<(), OutOfMemory> {
+    let alloc = rt.alloc();
+    let mut agent = open_agent(alloc, 1000, 1, Mode::Read)?;
+    let mut memory = open_memory(alloc, 1000, 0, 1000)?;
+    let early = times::<Brand>(alloc, Blank::new(1), &mut agent, &mut memory, 1, 1003)?;
+    assert_eq!(rt; early.sent.as_slice(), [0].as_slice());
+    assert_eq!(rt; early.taken.as_slice(), [1].as_slice());
+    assert_eq!(rt; early.served.as_slice(), [1001].as_slice());
+    assert_eq!(rt; early.answers.as_slice(), [1002].as_slice());
+    Ok(())
+}
+
+/// The first thing that an agent does at cycle 0.
+fn first_request<L: Ledger>(
+    alloc: Global,
+    blank: Blank,
+    agent: &mut Agent,
+) -> Result<Option<What>, OutOfMemory>
+    requires name { blank.name ≡ L.name }
+    requires parts { blank.parts ≡ L.parts }
+    requires some { 0 < blank.parts }
+{
+    let mut steps = Steps::<L>::open(blank);
+    let mut io = [Port::open(alloc, 1)?];
+    first_done(alloc, agent, &mut io, 0, &mut steps)
+}
+
+#[test]
+fn the_first_write_has_the_drawn_word(rt: HostRuntime) -> Result<(), OutOfMemory> {
+    let alloc = rt.alloc();
+    let mut agent = open_agent(alloc, 1, 1, Mode::Write)?;
+    let done = first_request::<Brand>(alloc, Blank::new(1), &mut agent)?;
+    let mut bytes = [0; DATA_BYTES];
+    bytes[0] = 0x6c;
+    bytes[1] = 0x59;
+    bytes[2] = 0x88;
+    bytes[3] = 0x3c;
+    let request = Msg {
+        id: MsgId {
+            part: PartNo(0),
+            seq: 0,
+        },
+        src: PortNo(0),
+        dst: PortNo(1),
+        kind: MsgKind::Write,
+        addr: 0x24,
+        len: 4,
+        bytes,
+    };
+    assert!(rt; done == Some(What::Send(request)));
+    Ok(())
+}
+
+/// The answer of a memory to a message, or None where it stays at the head.
+fn answer_to<L: Ledger>(
+    alloc: Global,
+    blank: Blank,
+    memory: &mut Memory,
+    msg: Msg,
+) -> Result<Option<Msg>, OutOfMemory>
+    requires name { blank.name ≡ L.name }
+    requires parts { blank.parts ≡ L.parts }
+    requires some { 0 < blank.parts }
+{
+    let mut steps = Steps::<L>::open(blank);
+    let mut top = [Port::open(alloc, 1)?];
+    let _ = top[0].deliver(msg);
+    let _ = first_done(alloc, memory, &mut top, 0, &mut steps)?;
+    let _ = first_done(alloc, memory, &mut top, 1, &mut steps)?;
+    Ok(top[0].out_head())
+}
+
+fn message(kind: MsgKind, addr: u32, len: u8) -> Msg {
+    Msg {
+        id: MsgId {
+            part: PartNo(3),
+            seq: 5,
+        },
+        src: PortNo(0),
+        dst: PortNo(1),
+        kind,
+        addr,
+        len,
+        bytes: [9; DATA_BYTES],
+    }
+}
+
+#[test]
+fn only_reads_and_writes_of_its_bytes_are_answered(rt: HostRuntime) -> Result<(), OutOfMemory> {
+    let alloc = rt.alloc();
+    let rows = [
+        (MsgKind::Read, 64, 4, Some((MsgKind::ReadRsp, 4))),
+        (MsgKind::Read, 572, 4, Some((MsgKind::ReadRsp, 4))),
+        (MsgKind::Read, 512, 64, Some((MsgKind::ReadRsp, 64))),
+        (MsgKind::Write, 64, 1, Some((MsgKind::WriteRsp, 0))),
+        (MsgKind::Read, 573, 4, None),
+        (MsgKind::Read, 63, 4, None),
+        (MsgKind::Read, 64, 0, None),
+        (MsgKind::Read, 64, 65, None),
+        (MsgKind::Write, 4_294_967_295, 4, None),
+        (MsgKind::ReadRsp, 64, 4, None),
+        (MsgKind::Flush, 64, 4, None),
+        (MsgKind::Token, 64, 4, None),
+    ];
+    for (kind, addr, len, expected) in rows {
+        let mut memory = open_memory(alloc, 1, 64, 1)?;
+        let answer = answer_to::<Brand>(
+            alloc,
+            Blank::new(1),
+            &mut memory,
+            message(kind, addr, len),
+        )?;
+        assert!(rt; answer.map(|msg| (msg.kind, msg.len)) == expected);
+    }
+    Ok(())
+}
+
+#[test]
+fn a_write_changes_its_bytes_alone(rt: HostRuntime) -> Result<(), OutOfMemory> {
+    let alloc = rt.alloc();
+    let mut memory = open_memory(alloc, 1, 64, 1)?;
+    let write = message(MsgKind::Write, 100, 2);
+    let _ = answer_to::<Brand>(alloc, Blank::new(1), &mut memory, write)?;
+    let rows = [
+        (63, None),
+        (64, Some(7)),
+        (99, Some(7)),
+        (100, Some(9)),
+        (101, Some(9)),
+        (102, Some(7)),
+        (575, Some(7)),
+        (576, None),
+    ];
+    for (addr, byte) in rows {
+        assert_eq!(rt; memory.byte(addr), byte);
+    }
+    assert_eq!(rt; memory.base(), 64);
+    assert_eq!(rt; memory.size(), 512);
+    Ok(())
+}
