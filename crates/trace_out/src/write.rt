@@ -1,0 +1,47 @@
+ghost use Rattle.std.specs.Prelude.{◌≡◌, ℕ, ◌<◌, ◌≤◌, false, is_some, OnOk, OnErr, All, ◌||◌};
+ghost use Rattle.sim_io.specs.Sink.{Rose, Got, GotPrefix};
+ghost use Rattle.trace_out.specs.Names.{actors_of};
+ghost use Rattle.trace_out.specs.Lines.{text_of, lines_of};
+
+use crate::line::out_line;
+use crate::names::Names;
+use port_msg::{RecList, Record, What};
+use sim_io::{Sink, SinkFault};
+
+/// Writes the line of a record, unless it has none.
+fn write_record<K: Sink>(record: &Record, names: &Names, sink: &mut K) -> Result<(), SinkFault>
+    requires known { record.now.actor.0 < actors_of names.now }
+
+    ensures ok { OnOk result (Got (K.told sink.old) (K.told sink.new) (text_of names.now false record.now)) }
+    ensures prefix { OnErr result (GotPrefix (K.told sink.old) (K.told sink.new) (text_of names.now false record.now)) }
+    ensures fault { OnErr result (Rose (K.faults sink.old) (K.faults sink.new)) }
+    ensures never_falls { K.faults sink.old ≤ K.faults sink.new }
+    ensures telling { is_some (K.told sink.new) ≡ is_some (K.told sink.old) }
+{
+    let What::Out(byte) = record.what else {
+        return Ok(());
+    };
+    let Some(name) = names.actor(record.actor) else {
+        unreachable!();
+    };
+    sink.write(out_line(record.at, name, byte).as_slice())
+}
+
+/// Writes the lines of these records in order, each in one write; without `all` only those of bytes that cores wrote.
+/// After a fault a prefix of them was written. It takes no memory.
+pub fn write_records<K: Sink>(recs: &RecList, names: &Names, all: bool, sink: &mut K) -> Result<(), SinkFault>
+    requires out_only { all ≡ false }
+    requires known { All (λ r. r.actor.0 < actors_of names.now) recs.now.items }
+
+    ensures ok { OnOk result (Got (K.told sink.old) (K.told sink.new) (lines_of names.now all recs.now.items)) }
+    ensures prefix { OnErr result (GotPrefix (K.told sink.old) (K.told sink.new) (lines_of names.now all recs.now.items)) }
+    ensures fault { OnErr result (Rose (K.faults sink.old) (K.faults sink.new)) }
+
+    ensures never_falls { K.faults sink.old ≤ K.faults sink.new }
+    ensures telling { is_some (K.told sink.new) ≡ is_some (K.told sink.old) }
+{
+    for record in recs.items() {
+        write_record(record, names, sink)?;
+    }
+    Ok(())
+}
