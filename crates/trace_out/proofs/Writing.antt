@@ -21,9 +21,9 @@ texts_more : {A : Type 0} (f : A → List ℕ) (items : List A) (i : ℕ) (item 
 texts_more f items i item other h is =
     let before = flat_map f (take i items) in
     sym (
-        ap (flat_map f) (take_more items i other h)
-        ∙ flat_map-append f (take i items) (get_or items i other ∷ [])
-        ∙ ap (λ text. before ++ text) (append-nil (f (get_or items i other)) ∙ ap f (sym is))
+    ap (flat_map f) (take_more items i other h)
+    ∙ flat_map-append f (take i items) (get_or items i other ∷ [])
+    ∙ ap (λ text. before ++ text) (append-nil (f (get_or items i other)) ∙ ap f (sym is))
     )
 
 regroup : (a b c d : List ℕ) → (a ++ (b ++ c)) ++ d ≡ (a ++ b) ++ (c ++ d)
@@ -40,9 +40,9 @@ got_part f items i item other old mid new before between h in_range is (k, got) 
     let before = flat_map f (take i items) in
     let after = flat_map f (drop (i + 1) items) in
     let whole : flat_map f items ≡ text ++ rest =
-        texts_split f items (i + 1)
-        ∙ ap (λ t. t ++ after) (sym (texts_more f items i item other in_range is) ∙ ap (λ t. before ++ t) (sym (take-append-drop k (f item))))
-        ∙ regroup before (take k (f item)) (drop k (f item)) after in
+    texts_split f items (i + 1)
+    ∙ ap (λ t. t ++ after) (sym (texts_more f items i item other in_range is) ∙ ap (λ t. before ++ t) (sym (take-append-drop k (f item))))
+    ∙ regroup before (take k (f item)) (drop k (f item)) after in
     (length text, subst (λ (bytes : List ℕ). Got old new bytes) (sym (ap (take (length text)) whole ∙ take-append_seam text rest)) (Got-more old mid new _ _ h.got got))
 
 pub on_err : {A E P : Type 0} (r : Result A E) → P → OnErr r P

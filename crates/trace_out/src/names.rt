@@ -35,7 +35,12 @@ impl Names {
     ghost use Rattle.trace_out.specs.Names.{names_view, HavePart, actor_name};
 
     /// The names of these parts, links and ports.
-    pub fn open(alloc: Global, parts: &[Name], links: &[Name], ports: &[PortName]) -> Result<Names, OutOfMemory>
+    pub fn open(
+        alloc: Global,
+        parts: &[Name],
+        links: &[Name],
+        ports: &[PortName],
+    ) -> Result<Names, OutOfMemory>
         requires have_part { HavePart (length parts.now) ports.now }
 
         ensures { IfOk result (λ names. names ≡ names_view parts.now links.now ports.now) }
