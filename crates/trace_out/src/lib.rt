@@ -1,0 +1,9 @@
+//! The lines of a trace: each record of a run as a line of text, written to a sink.
+#![tactic(auto)]
+
+mod line;
+mod names;
+mod write;
+
+pub use names::{Names, PortName};
+pub use write::write_records;
