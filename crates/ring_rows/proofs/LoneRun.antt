@@ -1,0 +1,32 @@
+-- The first time of the ring of one relay: its token is sent and comes back.
+use Rattle.std.specs.Prelude.{◌≡◌, [], ◌∷◌, Some, None, true, refl}
+use Rattle.port_msg.specs.PortView.{port_view}
+use Rattle.port_msg.specs.RecView.{record_of}
+use Rattle.port_msg.specs.declared.message.Msg.{Msg}
+use Rattle.port_msg.specs.declared.records.What.TheVariants.{Send, Move}
+use Rattle.tick_law.specs.SerialLoop.{WorldState, world_at, records_below, end_below, edges_below}
+use Rattle.tick_law.specs.Verdict.{verdict_at, end_at}
+use Rattle.tick_law.specs.declared.verdict.Verdict.TheVariants.{Cut}
+use Rattle.traffic_parts.specs.Relay.{token}
+use Rattle.ring_rows.specs.Lone.{lone, lone_relay, lone_link}
+use Rattle.ring_rows.proofs.Tokens.{token_of}
+
+-- the relay has sent one token, the link has moved it, and it stands in the relay's port with one hop left
+pub world_1 : world_at lone 1 ≡ record { parts = lone_relay None 1 0 ∷ []; links = lone_link 0 1 ∷ []; ports = port_view (token_of 0 0 0 0 1 ∷ []) [] 4 ∷ [] }
+unfolding token
+world_1 = refl
+
+pub records_1 : records_below lone 1 ≡ record_of 0 0 (Send (token_of 0 0 0 0 1)) ∷ record_of 0 1 (Move (token_of 0 0 0 0 1)) ∷ []
+unfolding token
+records_1 = refl
+
+pub end_1 : end_at lone 0 ≡ 0
+end_1 = refl
+
+pub edges_1 : edges_below lone 1 ≡ 2
+edges_1 = refl
+
+-- there is more to do
+pub verdict_1 : verdict_at lone 0 ≡ Cut
+unfolding token
+verdict_1 = refl
