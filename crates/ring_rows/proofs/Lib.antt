@@ -1,8 +1,7 @@
 pub mod LonePlan
-pub mod Tokens
 mod Awake
 mod Edges
-mod LoneRun
+pub mod LoneRun
 mod RingRun
 mod Verdicts
 mod ThreeRun

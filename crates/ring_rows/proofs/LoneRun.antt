@@ -8,11 +8,9 @@ use Rattle.tick_law.specs.SerialLoop.{WorldState, world_at, records_below, end_b
 use Rattle.tick_law.specs.Verdict.{verdict_at, end_at}
 use Rattle.tick_law.specs.declared.verdict.Verdict.TheVariants.{Cut}
 use Rattle.traffic_parts.specs.Relay.{token}
-use Rattle.ring_rows.specs.Lone.{lone, lone_relay, lone_link}
-use Rattle.ring_rows.proofs.Tokens.{token_of}
+use Rattle.ring_rows.specs.Lone.{token_of, lone, lone_after_one}
 
--- the relay has sent one token, the link has moved it, and it stands in the relay's port with one hop left
-pub world_1 : world_at lone 1 ≡ record { parts = lone_relay None 1 0 ∷ []; links = lone_link 0 1 ∷ []; ports = port_view (token_of 0 0 0 0 1 ∷ []) [] 4 ∷ [] }
+pub world_1 : world_at lone 1 ≡ lone_after_one
 unfolding token
 world_1 = refl
 

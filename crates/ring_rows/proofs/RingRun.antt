@@ -7,8 +7,8 @@ use Rattle.port_msg.specs.declared.records.Record.{Record}
 use Rattle.port_msg.specs.declared.records.What.TheVariants.{Send, Take, Move}
 use Rattle.tick_law.specs.SerialLoop.{world_at, records_below, records_at_time, end_below, edges_below}
 use Rattle.traffic_parts.specs.Relay.{token}
+use Rattle.ring_rows.specs.Lone.{token_of}
 use Rattle.ring_rows.specs.Pair.{pair, first_relay, second_relay, pair_link}
-use Rattle.ring_rows.proofs.Tokens.{token_of}
 
 abbrev three : Msg
 three = token_of 0 0 0 1 3

@@ -7,9 +7,8 @@ use Rattle.tick_law.specs.declared.verdict.Verdict.TheVariants.{Finished, Stuck,
 use Rattle.traffic_parts.specs.Relay.{token}
 use Rattle.part_kind.specs.declared.part.Part.{Part}
 use Rattle.part_kind.specs.declared.link_kind.LinkKind.{LinkKind}
-use Rattle.ring_rows.specs.Lone.{lone, lone_relay, lone_link}
+use Rattle.ring_rows.specs.Lone.{token_of, lone, lone_relay, lone_link}
 use Rattle.ring_rows.specs.Pair.{pair}
-use Rattle.ring_rows.proofs.Tokens.{token_of}
 
 -- the relay of a ring of one holds nothing
 abbrev pub idle : System Part LinkKind

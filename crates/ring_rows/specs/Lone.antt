@@ -1,10 +1,10 @@
 -- One relay that sends a token to itself.
-use Rattle.std.specs.Prelude.{◌≡◌, ℕ, List, [], ◌∷◌, Option, Some, None}
+use Rattle.std.specs.Prelude.{ℕ, List, [], ◌∷◌, Option, Some, None, replicate}
 use Rattle.sim_base.specs.declared.numbers.PortNo.{PortNo}
-use Rattle.port_msg.specs.PortView.{PortView, port_view}
-use Rattle.tick_law.specs.SerialLoop.{System}
-use Rattle.traffic_parts.specs.Relay.{RelayState}
-use Rattle.direct_link.specs.Direct.{DirectState}
+use Rattle.port_msg.specs.PortView.{port_view}
+use Rattle.tick_law.specs.SerialLoop.{System, WorldState}
+use Rattle.port_msg.specs.declared.message.Msg.{Msg}
+use Rattle.port_msg.specs.declared.message.MsgKind.TheVariants.{Token}
 use Rattle.part_kind.specs.Part.{part}
 use Rattle.part_kind.specs.LinkKind.{link}
 use Rattle.part_kind.specs.declared.part.Part.{Part}
@@ -35,3 +35,12 @@ lone = record {
   link_wires = record { own = (0 ∷ []) ∷ []; owner = 0 ∷ [] };
   start = record { parts = lone_relay (Some 2) 0 0 ∷ []; links = lone_link 0 0 ∷ []; ports = port_view [] [] 4 ∷ [] };
 }
+
+-- the token that this part made as its number seq, from a port to a port, with so many hops left
+abbrev pub token_of : ℕ → ℕ → ℕ → ℕ → ℕ → Msg
+token_of part seq src dst hops = record { id = record { part = record { 0 = part }; seq = seq }; src = record { 0 = src }; dst = record { 0 = dst }; kind = Token; addr = hops; len = 0; bytes = replicate 64 0 }
+
+-- the ring of one relay after time 0: it has sent one token, the link has moved it, and it stands in the relay's port with one
+-- hop left
+abbrev pub lone_after_one : WorldState Part LinkKind
+lone_after_one = record { parts = lone_relay None 1 0 ∷ []; links = lone_link 0 1 ∷ []; ports = port_view (token_of 0 0 0 0 1 ∷ []) [] 4 ∷ [] }
