@@ -52,12 +52,7 @@ fn token(hops: u32) -> Msg {
 }
 
 /// A step of a relay that starts with a token of these hops, or with none for 0, and has another at the head.
-fn step<L: Ledger>(
-    alloc: Global,
-    blank: Blank,
-    hops: u32,
-    head: u32,
-) -> Result<After, OutOfMemory>
+fn step<L: Ledger>(alloc: Global, blank: Blank, hops: u32, head: u32) -> Result<After, OutOfMemory>
     requires name { blank.name ≡ L.name }
     requires parts { blank.parts ≡ L.parts }
     requires some { 0 < blank.parts }
