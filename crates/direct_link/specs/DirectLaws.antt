@@ -45,6 +45,7 @@ target_room numbers ps dst j e = at_place (place_of numbers dst) e
     at_room : (k : ℕ) (b : Bool) → nat_lt (length (port_at ps k).incoming) (port_at ps k).cap ≡ b → with_room ps k b ≡ Some j → nat_lt (length (port_at ps j).incoming) (port_at ps j).cap ≡ true
     at_room k true e f = subst (λ i. nat_lt (length (port_at ps i).incoming) (port_at ps i).cap ≡ true) (let same : k ≡ j = cc in same) e
     at_room k false e f = absurd (cc)
+
     at_place : (o : Option ℕ) → with_place ps o ≡ Some j → nat_lt (length (port_at ps j).incoming) (port_at ps j).cap ≡ true
     at_place None f = absurd (cc)
     at_place (Some k) f = at_room k (nat_lt (length (port_at ps k).incoming) (port_at ps k).cap) refl f
@@ -161,6 +162,7 @@ target_face numbers ps qs dst f = at_place (place_of numbers dst)
     same_room : (j : ℕ) (b : Bool) → with_room ps j b ≡ with_room qs j b
     same_room j true = refl
     same_room j false = refl
+
     at_place : (o : Option ℕ) → with_place ps o ≡ with_place qs o
     at_place None = refl
     at_place (Some j) = ap (with_room ps j) (faces_at false ps qs j f).1 ∙ same_room j (nat_lt (length (port_at qs j).incoming) (port_at qs j).cap)

@@ -206,3 +206,6 @@ impl Actor for Relay {
 
     ghost period_within = { λ s v. (v.0, v.1) };
 }
+
+#[cfg(test)]
+mod tests;
