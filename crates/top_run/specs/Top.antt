@@ -7,20 +7,19 @@ use Rattle.tick_law.specs.declared.verdict.Verdict.{Verdict}
 use Rattle.tick_law.specs.declared.verdict.Verdict.TheVariants.{Finished, Stuck, Cut}
 use Rattle.state_view.specs.Report.{report_of}
 use Rattle.ring_plan.specs.Ring.{up_to, relay_name, ring_system}
-use Rattle.top_run.specs.declared.command.Command.{Command}
-use Rattle.top_run.specs.declared.command.Command.TheVariants.{Ring}
+use Rattle.top_run.specs.declared.command.Ring.{Ring}
 
 -- the verdict of the serial loop's run of a command, which ticks every actor at every edge up to the budget
-abbrev pub verdict_for : Command → Verdict
-verdict_for (Ring ring) = verdict_at (ring_system ring.relays ring.until.0) ring.until.0
+abbrev pub verdict_for : Ring → Verdict
+verdict_for ring = verdict_at (ring_system ring.relays ring.until.0) ring.until.0
 
 -- the report of that run: of its world behind the last time, its verdict and its ending time
-abbrev pub report_for : Command → List ℕ
-report_for (Ring ring) = report_of (map relay_name (up_to ring.relays)) (codes "net" ∷ []) ring.until.0 (world_at (ring_system ring.relays ring.until.0) (ring.until.0 + 1)) (verdict_at (ring_system ring.relays ring.until.0) ring.until.0) (end_at (ring_system ring.relays ring.until.0) ring.until.0)
+abbrev pub report_for : Ring → List ℕ
+report_for ring = report_of (map relay_name (up_to ring.relays)) (codes "net" ∷ []) ring.until.0 (world_at (ring_system ring.relays ring.until.0) (ring.until.0 + 1)) (verdict_at (ring_system ring.relays ring.until.0) ring.until.0) (end_at (ring_system ring.relays ring.until.0) ring.until.0)
 
 -- how many edges that run has
-abbrev pub edges_for : Command → ℕ
-edges_for (Ring ring) = edges_below (ring_system ring.relays ring.until.0) (ring.until.0 + 1)
+abbrev pub edges_for : Ring → ℕ
+edges_for ring = edges_below (ring_system ring.relays ring.until.0) (ring.until.0 + 1)
 
 -- the status of a verdict
 abbrev pub status_of : Verdict → ℕ

@@ -1,33 +1,33 @@
 -- The words that the program accepts, and where others are refused.
-use Rattle.std.specs.Prelude.{◌≡◌, ℕ, ◌<◌, ◌≤◌, List, [], ◌∷◌, map, take, codes, ⊥, String, Global, string_bytes, Some, slice_get}
+use Rattle.std.specs.Prelude.{◌≡◌, ℕ, ◌<◌, ◌≤◌, List, [], ◌∷◌, map, take, codes, String, string_bytes, Some, slice_get}
 use Rattle.std.specs.Fmt.{decimal}
-use Rattle.top_run.specs.declared.command.Command.{Command}
-use Rattle.top_run.specs.declared.command.Command.TheVariants.{Ring}
+use Rattle.std.specs.Global.{Global}
+use Rattle.top_run.specs.declared.command.Ring.{Ring}
 
 -- the bytes of each word
 abbrev pub spelled : List (String Global) → List (List ℕ)
 spelled words = map string_bytes words
 
 -- how a command is written: `ring N UNTIL`
-abbrev pub words_of : Command → List (List ℕ)
-words_of (Ring ring) = codes "ring" ∷ decimal ring.relays ∷ decimal ring.until.0 ∷ []
+abbrev pub words_of : Ring → List (List ℕ)
+words_of ring = codes "ring" ∷ decimal ring.relays ∷ decimal ring.until.0 ∷ []
 
 -- its numbers are in their ranges
-abbrev pub InRange : Command → Type 0
-InRange (Ring ring) = (1 ≤ ring.relays) × (ring.relays ≤ 256) × (ring.until.0 ≤ 500000000000)
+abbrev pub InRange : Ring → Type 0
+InRange ring = (1 ≤ ring.relays) × (ring.relays ≤ 256) × (ring.until.0 ≤ 500000000000)
 
 -- the words are those of a command in its ranges
-pub record Accepts (words : List (List ℕ)) (command : Command) : Type 0 where
-  pub spelling : words ≡ words_of command
-  pub range : InRange command
+pub record Accepts (words : List (List ℕ)) (ring : Ring) : Type 0 where
+  pub spelling : words ≡ words_of ring
+  pub range : InRange ring
 
 -- some command is written so
 abbrev pub IsAccepted : List (List ℕ) → Type 0
-IsAccepted words = (command : Command) × Accepts words command
+IsAccepted words = (ring : Ring) × Accepts words ring
 
 -- an accepted list has the same first k words
 abbrev pub Shares : ℕ → List (List ℕ) → Type 0
-Shares k words = (command : Command) × InRange command × (take k (words_of command) ≡ take k words)
+Shares k words = (ring : Ring) × InRange ring × (take k (words_of ring) ≡ take k words)
 
 -- k is the least number such that no accepted list has the same first k words
 pub record RefusedAt (words : List (List ℕ)) (k : ℕ) : Type 0 where

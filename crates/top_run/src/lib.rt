@@ -2,13 +2,12 @@
 #![tactic(auto)]
 
 mod command;
-
 mod refusal;
 mod run;
 mod status;
 mod top;
 mod words;
 
-pub use command::{Command, Ring};
-pub use top::plain;
+pub use command::Ring;
 pub use status::Status;
+pub use top::plain;

@@ -2,7 +2,7 @@ ghost use Rattle.std.specs.Prelude.{◌≡◌, ◌+◌, IfOk, OnOk};
 ghost use Rattle.top_run.specs.Words.{InRange};
 ghost use Rattle.top_run.specs.Top.{verdict_for, report_for, edges_for};
 
-use crate::command::{Command, Ring};
+use crate::command::Ring;
 use ring_plan::{link_names, relay_names, ring_plan};
 use serial_loop::run_serial;
 use sim_base::{Body, OutOfMemory, Steps};
@@ -18,12 +18,13 @@ pub struct Shown {
     pub report: Body,
 }
 
-fn run_ring<L: Ledger>(alloc: Global, ring: Ring, steps: &mut Steps<L>) -> Result<Shown, OutOfMemory>
-    requires { InRange (Command.Ring ring) }
+/// Runs a ring by the loop that ticks everything. One step is charged for each edge of each actor up to the budget.
+pub fn run_ring<L: Ledger>(alloc: Global, ring: Ring, steps: &mut Steps<L>) -> Result<Shown, OutOfMemory>
+    requires { InRange ring }
 
-    ensures verdict { IfOk result (λ shown. shown.verdict ≡ verdict_for (Command.Ring ring)) }
-    ensures report { IfOk result (λ shown. shown.report ≡ report_for (Command.Ring ring)) }
-    ensures steps { OnOk result (steps.new ≡ steps.old + edges_for (Command.Ring ring)) }
+    ensures verdict { IfOk result (λ shown. shown.verdict ≡ verdict_for ring) }
+    ensures report { IfOk result (λ shown. shown.report ≡ report_for ring) }
+    ensures steps { OnOk result (steps.new ≡ steps.old + edges_for ring) }
 {
     let part_names = relay_names(alloc, ring.relays)?;
     let link_names = link_names(alloc)?;
@@ -42,21 +43,4 @@ fn run_ring<L: Ledger>(alloc: Global, ring: Ring, steps: &mut Steps<L>) -> Resul
         verdict: ending.verdict,
         report,
     })
-}
-
-/// Runs a command by the loop that ticks everything. One step is charged for each edge of each actor up to the budget.
-pub fn run_command<L: Ledger>(
-    alloc: Global,
-    command: Command,
-    steps: &mut Steps<L>,
-) -> Result<Shown, OutOfMemory>
-    requires { InRange command }
-
-    ensures verdict { IfOk result (λ shown. shown.verdict ≡ verdict_for command) }
-    ensures report { IfOk result (λ shown. shown.report ≡ report_for command) }
-    ensures steps { OnOk result (steps.new ≡ steps.old + edges_for command) }
-{
-    match command {
-        Command::Ring(ring) => run_ring(alloc, ring, steps),
-    }
 }

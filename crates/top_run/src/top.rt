@@ -1,12 +1,13 @@
-ghost use Rattle.std.specs.Prelude.{◌≡◌, ◌≢◌, ℕ, ◌+◌, ◌<◌, ◌≤◌, ⊥, ◌⊎◌, ◌↔◌, length, List, [], is_some, IsTrue, IfOk, IfSome, OnOk};
+ghost use Rattle.std.specs.Prelude.{◌≡◌, ◌≢◌, ℕ, ◌+◌, ◌<◌, ◌≤◌, ◌⊎◌, ◌↔◌, length, List, [], is_some, true, IfOk, IfSome, OnOk};
 ghost use Rattle.sim_io.specs.Sink.{Rose, Got, GotPrefix};
 ghost use Rattle.top_run.specs.Words.{spelled, InRange, Accepts, IsAccepted, RefusedAt};
+ghost use Rattle.top_run.specs.declared.command.Ring.{Ring};
 ghost use Rattle.top_run.specs.Top.{verdict_for, report_for, edges_for, status_of, IsVerdict, usage_line, write_line, memory_line};
 
 use crate::refusal::{Refusal, usage_line};
-use crate::run::run_command;
+use crate::run::run_ring;
 use crate::status::Status;
-use crate::words::read_command;
+use crate::words::read_ring;
 use sim_base::Steps;
 use sim_io::{Files, Sink};
 use std::alloc::Global;
@@ -54,13 +55,13 @@ fn run_words<K: Sink, L: Ledger>(
     out: &mut K,
     steps: &mut Steps<L>,
 ) -> Result<Verdict, Refusal>
-    ensures ran { IfOk result (λ verdict. (command : Command) × Accepts (spelled words.now) command × (verdict ≡ verdict_for command) × Got (K.told out.old) (K.told out.new) (report_for command) × (steps.new ≡ steps.old + edges_for command)) }
+    ensures ran { IfOk result (λ verdict. (ring : Ring) × Accepts (spelled words.now) ring × (verdict ≡ verdict_for ring) × Got (K.told out.old) (K.told out.new) (report_for ring) × (steps.new ≡ steps.old + edges_for ring)) }
     ensures usage { (k : ℕ) → result ≡ Err (Refusal.Usage k) → RefusedAt (spelled words.now) k × (out.new ≡ out.old) }
-    ensures write { result ≡ Err Refusal.Write → (command : Command) × Accepts (spelled words.now) command × Rose (K.faults out.old) (K.faults out.new) × GotPrefix (K.told out.old) (K.told out.new) (report_for command) }
+    ensures write { result ≡ Err Refusal.Write → (ring : Ring) × Accepts (spelled words.now) ring × Rose (K.faults out.old) (K.faults out.new) × GotPrefix (K.told out.old) (K.told out.new) (report_for ring) }
     ensures memory { result ≡ Err Refusal.OutOfMemory → out.new ≡ out.old }
 {
-    let command = read_command(alloc, words)?;
-    let shown = run_command(alloc, command, steps)?;
+    let ring = read_ring(alloc, words)?;
+    let shown = run_ring(alloc, ring, steps)?;
     write_report(out, shown.report.items())?;
     Ok(shown.verdict)
 }
@@ -81,7 +82,7 @@ pub fn plain<F: Files, K: Sink, E: Sink, L: Ledger>(
     ensures some { is_some result ≡ true }
     ensures statuses { IfSome result (λ s. IsVerdict s.0 ⊎ ((s.0 ≡ 2) ⊎ ((s.0 ≡ 6) ⊎ (s.0 ≡ 8)))) }
 
-    ensures ran { IfSome result (λ s. IsVerdict s.0 → (command : Command) × Accepts (spelled words.now) command × (s.0 ≡ status_of (verdict_for command)) × Got (K.told out.old) (K.told out.new) (report_for command) × (steps.new ≡ steps.old + edges_for command)) }
+    ensures ran { IfSome result (λ s. IsVerdict s.0 → (ring : Ring) × Accepts (spelled words.now) ring × (s.0 ≡ status_of (verdict_for ring)) × Got (K.told out.old) (K.told out.new) (report_for ring) × (steps.new ≡ steps.old + edges_for ring)) }
     ensures silent { IfSome result (λ s. IsVerdict s.0 → err.new ≡ err.old) }
 
     ensures usage { IfSome result (λ s. s.0 ≡ 2 → (k : ℕ) × RefusedAt (spelled words.now) k × GotPrefix (E.told err.old) (E.told err.new) (usage_line k)) }
@@ -89,7 +90,7 @@ pub fn plain<F: Files, K: Sink, E: Sink, L: Ledger>(
     ensures accepted { IsAccepted (spelled words.now) → IfSome result (λ s. s.0 ≢ 2) }
     ensures unwritten { IfSome result (λ s. s.0 ≡ 2 → out.new ≡ out.old) }
 
-    ensures write { IfSome result (λ s. s.0 ≡ 6 → (command : Command) × Accepts (spelled words.now) command × Rose (K.faults out.old) (K.faults out.new) × GotPrefix (K.told out.old) (K.told out.new) (report_for command) × GotPrefix (E.told err.old) (E.told err.new) write_line) }
+    ensures write { IfSome result (λ s. s.0 ≡ 6 → (ring : Ring) × Accepts (spelled words.now) ring × Rose (K.faults out.old) (K.faults out.new) × GotPrefix (K.told out.old) (K.told out.new) (report_for ring) × GotPrefix (E.told err.old) (E.told err.new) write_line) }
     ensures memory { IfSome result (λ s. s.0 ≡ 8 → (out.new ≡ out.old) × GotPrefix (E.told err.old) (E.told err.new) memory_line) }
     ensures files { files.new ≡ files.old }
 {

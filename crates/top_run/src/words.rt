@@ -1,11 +1,39 @@
-ghost use Rattle.std.specs.Prelude.{◌≡◌, ◌≢◌, ℕ, ◌≤◌, ◌<◌, ⊥, codes, length, Some, slice_get, IsTrue, ◌↔◌, IfOk, IfSome};
+ghost use Rattle.std.specs.Prelude.{◌≡◌, ◌≢◌, ℕ, ◌≤◌, ◌<◌, ◌^◌, codes, length, Some, slice_get, IsTrue, ◌↔◌, IfOk, IfSome};
 ghost use Rattle.std.specs.Fmt.{decimal};
 ghost use Rattle.top_run.specs.Words.{spelled, Accepts, RefusedAt, IsNumberAt};
 
-use crate::command::{Command, Ring};
+use crate::command::Ring;
 use crate::refusal::Refusal;
 use sim_base::{OutOfMemory, Time};
 use std::alloc::Global;
+
+/// The only number that a word may be.
+fn parsed(word: &str) -> Option<u64>
+    ensures { (n : ℕ) → n < 2 ^ 64 → word.now ≡ decimal n → result ≡ Some n }
+{
+    match word.parse::<u64>() {
+        Ok(n) => Some(n),
+        Err(_) => None,
+    }
+}
+
+fn kept(
+    alloc: Global,
+    word: &str,
+    n: u64,
+    least: u64,
+    most: u64,
+) -> Result<Option<u64>, OutOfMemory>
+    ensures some { IfOk result (λ o. IfSome o (λ m. (word.now ≡ decimal m) × (least ≤ m) × (m ≤ most))) }
+    ensures none { result ≡ Ok None → least ≤ n → n ≤ most → word.now ≢ decimal n }
+{
+    let text = format!(in alloc; "{n}")?;
+    if text.as_bytes() == word.as_bytes() && least <= n && n <= most {
+        Ok(Some(n))
+    } else {
+        Ok(None)
+    }
+}
 
 /// The number that a word is: in decimal digits without a sign or a leading zero, and in the range.
 fn number(
@@ -17,14 +45,9 @@ fn number(
     ensures some { IfOk result (λ o. IfSome o (λ n. (word.now ≡ decimal n) × (least ≤ n) × (n ≤ most))) }
     ensures none { result ≡ Ok None → (n : ℕ) → least ≤ n → n ≤ most → word.now ≢ decimal n }
 {
-    let Ok(n) = word.parse::<u64>() else {
-        return Ok(None);
-    };
-    let text = format!(in alloc; "{n}")?;
-    if text.as_bytes() == word.as_bytes() && least <= n && n <= most {
-        Ok(Some(n))
-    } else {
-        Ok(None)
+    match parsed(word) {
+        Some(n) => kept(alloc, word, n, least, most),
+        None => Ok(None),
     }
 }
 
@@ -44,23 +67,23 @@ fn number_at(
     }
 }
 
-fn is_ring(words: &[String]) -> bool
-    ensures { IsTrue result ↔ (slice_get (spelled words.now) 0 ≡ Some (codes "ring")) }
+fn is_word(words: &[String], place: usize, text: &[u8]) -> bool
+    ensures { IsTrue result ↔ (slice_get (spelled words.now) place ≡ Some text.now) }
 {
-    match words.get(0) {
-        Some(word) => word.as_bytes() == b"ring".as_slice(),
+    match words.get(place) {
+        Some(word) => word.as_bytes() == text,
         None => false,
     }
 }
 
-/// The command that the words are. Words that are refused are named by the least number K such that no accepted list has the
+/// The ring that the words ask for. Words that are refused are named by the least number K such that no accepted list has the
 /// same first K words.
-pub fn read_command(alloc: Global, words: &[String]) -> Result<Command, Refusal>
-    ensures accepted { IfOk result (λ command. Accepts (spelled words.now) command) }
+pub fn read_ring(alloc: Global, words: &[String]) -> Result<Ring, Refusal>
+    ensures accepted { IfOk result (λ ring. Accepts (spelled words.now) ring) }
     ensures refused { (k : ℕ) → result ≡ Err (Refusal.Usage k) → RefusedAt (spelled words.now) k }
     ensures not_write { result ≢ Err Refusal.Write }
 {
-    if !is_ring(words) {
+    if !is_word(words, 0, b"ring") {
         return Err(Refusal::Usage(1));
     }
     let Some(relays) = number_at(alloc, words, 1, 1, 256)? else {
@@ -72,8 +95,8 @@ pub fn read_command(alloc: Global, words: &[String]) -> Result<Command, Refusal>
     if words.len() > 3 {
         return Err(Refusal::Usage(4));
     }
-    Ok(Command::Ring(Ring {
+    Ok(Ring {
         relays: relays as u32,
         until: Time(until),
-    }))
+    })
 }

@@ -1,0 +1,21 @@
+use Rattle.std.proofs.Common.{◌≡◌, Err, take, sym, ap}
+use Rattle.top_run.specs.declared.refusal.Refusal.TheVariants.{Usage}
+use Rattle.top_run.proofs.top.plain.Goals as goal
+
+pub returns-in-Err-Usage-clause-accepted : goal.returns-in-Err-Usage-clause-accepted
+returns-in-Err-Usage-clause-accepted g c = λ (ring, accepts) two.
+    let is : c.run_words.result ≡ Err (Usage c.in-Err-Usage.word) = cc in
+    let refused = c.run_words.ensures.usage c.in-Err-Usage.word is in
+    refused.0.none (ring, accepts.range, ap (λ l. take c.in-Err-Usage.word l) (sym accepts.spelling))
+
+pub returns-in-Err-Usage-clause-unwritten : goal.returns-in-Err-Usage-clause-unwritten
+returns-in-Err-Usage-clause-unwritten g c = λ two.
+    let is : c.run_words.result ≡ Err (Usage c.in-Err-Usage.word) = cc in
+    let refused = c.run_words.ensures.usage c.in-Err-Usage.word is in
+    refused.1
+
+pub returns-in-Err-Usage-clause-memory : goal.returns-in-Err-Usage-clause-memory
+returns-in-Err-Usage-clause-memory g c = λ eight.
+    let is : c.run_words.result ≡ Err (Usage c.in-Err-Usage.word) = cc in
+    let refused = c.run_words.ensures.usage c.in-Err-Usage.word is in
+    (refused.1, c.tell_usage-status.ensures.memory eight)
