@@ -110,6 +110,7 @@ apart_last (y ∷ ys) x a n = ((λ h. either y (has_end ys y h)), apart_last ys 
         more : Has zs y ⊎ (y ≡ x) → Has (z ∷ zs) y ⊎ (y ≡ x)
         more (inl (i, m, f)) = inl (suc i, omega arith, f)
         more (inr f) = inr f
+
     either : (q : ℕ) → Has ys y ⊎ (y ≡ x) → ⊥
     either q (inl h) = a.0 h
     either q (inr e) = n (zero, omega arith, e)
@@ -264,7 +265,7 @@ own_is items own n e =
 
 view_is : (p p' : List Part) (l l' : List LinkKind) (a a' b b' : List (List ℕ)) (f f' : List (List (List ℕ))) (q q' : List PortPlan) (o o' : List (List ℕ)) (t t' : ℕ) → p ≡ p' → l ≡ l' → a ≡ a' → b ≡ b' → f ≡ f' → q ≡ q' → o ≡ o' → t ≡ t' →
     (let x : PlanView Part LinkKind = record { parts = p; links = l; part_names = a; link_names = b; fields = f; ports = q; own = o; until = t } in
-     let y : PlanView Part LinkKind = record { parts = p'; links = l'; part_names = a'; link_names = b'; fields = f'; ports = q'; own = o'; until = t' } in x ≡ y)
+    let y : PlanView Part LinkKind = record { parts = p'; links = l'; part_names = a'; link_names = b'; fields = f'; ports = q'; own = o'; until = t' } in x ≡ y)
 view_is p p' l l' a a' b b' f f' q q' o o' t t' c d e g h i j k = cc
 
 pub plan_is : (n until : ℕ) (parts : List Part) (links : List LinkKind) (part_names link_names : List (List ℕ)) (fields : List (List (List ℕ))) (ports : List PortPlan) (own : List (List ℕ)) (time : ℕ) →

@@ -61,7 +61,11 @@ fn ring_links(alloc: Global, count: u32) -> Result<Vec<LinkKind>, OutOfMemory>
 }
 
 /// The plan of a ring of 1 to 256 relays, up to a time of at most 500,000,000,000 ps.
-pub fn ring_plan(alloc: Global, count: u32, until: Time) -> Result<Plan<Part, LinkKind>, OutOfMemory>
+pub fn ring_plan(
+    alloc: Global,
+    count: u32,
+    until: Time,
+) -> Result<Plan<Part, LinkKind>, OutOfMemory>
     requires some { 1 ≤ count }
     requires few { count ≤ MOST_RELAYS }
     requires early { until.0 ≤ 500000000000 }

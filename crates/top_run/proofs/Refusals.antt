@@ -53,9 +53,9 @@ shared_at words r k n b e = sym (get_taken k n (words_of r) b) ∙ ap (λ l. sli
 
 pub refused_first : (words : List (List ℕ)) → (slice_get words 0 ≡ Some (codes "ring") → ⊥) → RefusedAt words 1
 refused_first words other = record {
-    none = λ (r, range, same). not_first r same;
-    before = λ j b. subst (λ i. Shares i words) (let z : 0 ≡ j = omega (arith, b) in z) (shares_none words);
-  }
+  none = λ (r, range, same). not_first r same;
+  before = λ j b. subst (λ i. Shares i words) (let z : 0 ≡ j = omega (arith, b) in z) (shares_none words);
+}
   where
     not_first : (r : Ring) → take 1 (words_of r) ≡ take 1 words → ⊥
     not_first r same = other (sym (shared_at words r 0 1 (omega arith) same))
@@ -67,9 +67,9 @@ below_two C (suc (suc j)) b x y = absurd (omega (arith, b))
 
 pub refused_second : (words : List (List ℕ)) → slice_get words 0 ≡ Some (codes "ring") → ((n : ℕ) → IsNumberAt words 1 1 256 n → ⊥) → RefusedAt words 2
 refused_second words e other = record {
-    none = λ (r, range, same). not_second r range same;
-    before = λ j b. below_two (λ i. Shares i words) j b (shares_none words) (shares_one words e);
-  }
+  none = λ (r, range, same). not_second r range same;
+  before = λ j b. below_two (λ i. Shares i words) j b (shares_none words) (shares_one words e);
+}
   where
     not_second : (r : Ring) → InRange r → take 2 (words_of r) ≡ take 2 words → ⊥
     not_second r range same = other r.relays (record { word = sym (shared_at words r 1 2 (omega arith) same); from = range.0; within = range.1 })
@@ -82,9 +82,9 @@ below_three C (suc (suc (suc j))) b x y z = absurd (omega (arith, b))
 
 pub refused_third : (words : List (List ℕ)) (n : ℕ) → slice_get words 0 ≡ Some (codes "ring") → IsNumberAt words 1 1 256 n → ((until : ℕ) → IsNumberAt words 2 0 500000000000 until → ⊥) → RefusedAt words 3
 refused_third words n e f other = record {
-    none = λ (r, range, same). not_third r range same;
-    before = λ j b. below_three (λ i. Shares i words) j b (shares_none words) (shares_one words e) (shares_two words n e f);
-  }
+  none = λ (r, range, same). not_third r range same;
+  before = λ j b. below_three (λ i. Shares i words) j b (shares_none words) (shares_one words e) (shares_two words n e f);
+}
   where
     not_third : (r : Ring) → InRange r → take 3 (words_of r) ≡ take 3 words → ⊥
     not_third r range same = other r.until.0 (record { word = sym (shared_at words r 2 3 (omega arith) same); from = omega arith; within = range.2 })
@@ -103,9 +103,9 @@ some_there (w ∷ ws) (suc k) b e = some_there ws k (omega (arith, b)) e
 
 pub refused_fourth : (words : List (List ℕ)) (n until : ℕ) → slice_get words 0 ≡ Some (codes "ring") → IsNumberAt words 1 1 256 n → IsNumberAt words 2 0 500000000000 until → 3 < length words → RefusedAt words 4
 refused_fourth words n until e f g long = record {
-    none = λ (r, range, same). not_fourth r same;
-    before = λ j b. below_four (λ i. Shares i words) j b (shares_none words) (shares_one words e) (shares_two words n e f) (shares_three words n until e f g);
-  }
+  none = λ (r, range, same). not_fourth r same;
+  before = λ j b. below_four (λ i. Shares i words) j b (shares_none words) (shares_one words e) (shares_two words n e f) (shares_three words n until e f g);
+}
   where
     not_fourth : (r : Ring) → take 4 (words_of r) ≡ take 4 words → ⊥
     not_fourth r same = some_there words 3 long (sym (shared_at words r 3 4 (omega arith) same))
@@ -118,9 +118,9 @@ take_all (w ∷ ws) (suc n) b = ap (λ l. w ∷ l) (take_all ws n (omega (arith,
 
 pub accepted : (words : List (List ℕ)) (n until : ℕ) → slice_get words 0 ≡ Some (codes "ring") → IsNumberAt words 1 1 256 n → IsNumberAt words 2 0 500000000000 until → length words ≤ 3 → Accepts words (command_of n until)
 accepted words n until e f g short = record {
-    spelling = sym (take_all words 3 short) ∙ at_two (codes "ring") (decimal n) (decimal until) words e f.word g.word;
-    range = (f.from, f.within, g.within);
-  }
+  spelling = sym (take_all words 3 short) ∙ at_two (codes "ring") (decimal n) (decimal until) words e f.word g.word;
+  range = (f.from, f.within, g.within);
+}
 
 pub length-spelled : (words : List (String Global)) → length (spelled words) ≡ length words
 length-spelled [] = refl

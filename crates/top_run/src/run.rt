@@ -19,7 +19,11 @@ pub struct Shown {
 }
 
 /// Runs a ring by the loop that ticks everything. One step is charged for each edge of each actor up to the budget.
-pub fn run_ring<L: Ledger>(alloc: Global, ring: Ring, steps: &mut Steps<L>) -> Result<Shown, OutOfMemory>
+pub fn run_ring<L: Ledger>(
+    alloc: Global,
+    ring: Ring,
+    steps: &mut Steps<L>,
+) -> Result<Shown, OutOfMemory>
     requires { InRange ring }
 
     ensures verdict { IfOk result (λ shown. shown.verdict ≡ verdict_for ring) }

@@ -36,12 +36,7 @@ fn kept(
 }
 
 /// The number that a word is: in decimal digits without a sign or a leading zero, and in the range.
-fn number(
-    alloc: Global,
-    word: &str,
-    least: u64,
-    most: u64,
-) -> Result<Option<u64>, OutOfMemory>
+fn number(alloc: Global, word: &str, least: u64, most: u64) -> Result<Option<u64>, OutOfMemory>
     ensures some { IfOk result (λ o. IfSome o (λ n. (word.now ≡ decimal n) × (least ≤ n) × (n ≤ most))) }
     ensures none { result ≡ Ok None → (n : ℕ) → least ≤ n → n ≤ most → word.now ≢ decimal n }
 {
