@@ -5,6 +5,8 @@ mod command;
 mod refusal;
 mod run;
 mod status;
+#[cfg(test)]
+mod tests;
 mod top;
 mod words;
 
