@@ -1,1 +1,2 @@
 pub mod IsOpened
+pub mod FirstEdge

@@ -1,12 +1,13 @@
-ghost use Rattle.std.specs.Prelude.{ℕ, ◌<◌, ◌≤◌, length, slice_index_or};
+ghost use Rattle.std.specs.Prelude.{◌≡◌, ℕ, ◌<◌, ◌≤◌, ◌⊎◌, length, slice_index_or};
 ghost use Rattle.tick_law.specs.NextTime.{edge_from};
+ghost use Rattle.serial_loop.specs.FirstEdge.{IsFirstEdge};
 
 use time_step::wake::edge;
 
 fn lesser(a: u64, b: u64) -> u64
     ensures first { result ≤ a }
     ensures second { result ≤ b }
-    ensures least { (n : ℕ) → n ≤ a → n ≤ b → n ≤ result }
+    ensures either { (result ≡ a) ⊎ (result ≡ b) }
 {
     a.min(b)
 }
@@ -20,6 +21,7 @@ fn least_edge(periods: &[u64], at: u64, bound: u64) -> u64
     ensures from { at ≤ result }
     ensures within { result ≤ bound }
     ensures each { (i : ℕ) → i < length periods.now → result ≤ edge_from (slice_index_or periods.now i 0) at }
+    ensures reached { (result ≡ bound) ⊎ IsFirstEdge periods.now at result }
 {
     let mut low = bound;
     for no in 0..periods.len() {
@@ -39,6 +41,7 @@ pub fn next_edge(part_periods: &[u64], link_periods: &[u64], at: u64, bound: u64
     ensures within { result ≤ bound }
     ensures parts { (i : ℕ) → i < length part_periods.now → result ≤ edge_from (slice_index_or part_periods.now i 0) at }
     ensures links { (i : ℕ) → i < length link_periods.now → result ≤ edge_from (slice_index_or link_periods.now i 0) at }
+    ensures reached { (result ≡ bound) ⊎ (IsFirstEdge part_periods.now at result ⊎ IsFirstEdge link_periods.now at result) }
 {
     lesser(
         least_edge(part_periods, at, bound),

@@ -1,4 +1,4 @@
-use Rattle.std.proofs.Common.{ℕ, ◌<◌, ◌≤◌, get_or}
+use Rattle.std.proofs.Common.{◌≡◌, ℕ, ◌<◌, ◌≤◌, ◌⊎◌, get_or}
 use Rattle.tick_law.specs.NextTime.{edge_from}
 use Rattle.serial_loop.proofs.edges.least_edge.Given as goal
 
@@ -6,5 +6,6 @@ abbrev pub invariant-loop-no : goal.invariant-loop-no
 invariant-loop-no l = record {
   from : l.at ≤ l.low;
   within : l.low ≤ l.bound;
+  reached : (l.low ≡ l.bound) ⊎ ((i : ℕ) × (i < l.no) × (l.low ≡ edge_from (get_or l.periods i 0) l.at));
   each : (i : ℕ) → i < l.no → l.low ≤ edge_from (get_or l.periods i 0) l.at;
 }
