@@ -59,7 +59,8 @@ fn ran(
 fn three_relays_finish(rt: HostRuntime) -> Result<(), Fail> {
     let left = ran(rt.alloc(), &["ring", "3", "20000"], &[], &[])?;
     assert_eq!(rt; left.status, Some(Status(0)));
-    let report = "verdict finished\nend 11000\nbudget 20000\npart r0 relay done sent 2 ended 1\npart r1 relay done sent 2 ended 0\npart r2 relay done sent 2 ended 0\nlink net direct moved 6 pointer 0\n";
+    let report =
+        "verdict finished\nend 11000\nbudget 20000\npart r0 relay done sent 2 ended 1\npart r1 relay done sent 2 ended 0\npart r2 relay done sent 2 ended 0\nlink net direct moved 6 pointer 0\n";
     assert_eq!(rt; left.out.bytes(), report.as_bytes());
     assert_eq!(rt; left.err.bytes(), b"".as_slice());
     Ok(())
@@ -69,7 +70,8 @@ fn three_relays_finish(rt: HostRuntime) -> Result<(), Fail> {
 fn one_relay_is_cut(rt: HostRuntime) -> Result<(), Fail> {
     let left = ran(rt.alloc(), &["ring", "1", "0"], &[], &[])?;
     assert_eq!(rt; left.status, Some(Status(11)));
-    let report = "verdict cut\nend 0\nbudget 0\npart r0 relay done sent 1 ended 0\nlink net direct moved 1 pointer 0\n";
+    let report =
+        "verdict cut\nend 0\nbudget 0\npart r0 relay done sent 1 ended 0\nlink net direct moved 1 pointer 0\n";
     assert_eq!(rt; left.out.bytes(), report.as_bytes());
     assert_eq!(rt; left.err.bytes(), b"".as_slice());
     Ok(())
