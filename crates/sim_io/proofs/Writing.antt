@@ -1,8 +1,8 @@
 -- What a writer got of a piece, and what is left of it.
-use Rattle.std.proofs.Common.{◌≡◌, ℕ, ◌+◌, ◌<◌, ◌≤◌, List, [], ◌++◌, length, take, drop, Option, Some, None, append_assoc, ap, sym, ◌∙◌, arith, refl, subst, length-drop, ◌-◌}
+use Rattle.std.proofs.Common.{◌≡◌, ℕ, ◌+◌, ◌≤◌, List, length, take, drop, Option, Some, None, append_assoc, ap, sym, ◌∙◌, arith, refl, subst, length-drop, ◌-◌}
 use Rattle.std.proofs.Math.Seq.{take-add}
 use Rattle.std.proofs.lemmas.List.{take_all, append-nil, drop-drop}
-use Rattle.std.specs.Io.KnownBytes.{Appends, Keeps}
+use Rattle.std.specs.Io.KnownBytes.{Appends}
 
 -- the writer got the first bytes of the piece, and the rest of it is left
 pub record HasWritten (old new : Option (List ℕ)) (piece rest : List ℕ) : Type 0 where

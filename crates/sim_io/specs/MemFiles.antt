@@ -1,5 +1,5 @@
 -- What contracts see of files in memory.
-use Rattle.std.specs.Prelude.{◌≡◌, ℕ, ◌+◌, ◌-◌, ◌^◌, min, List, [], ◌∷◌, ◌++◌, ◌⊎◌, Option, option_map, find, count_by, Contains, IsNone, bytes_eq}
+use Rattle.std.specs.Prelude.{ℕ, ◌+◌, ◌-◌, ◌^◌, min, List, [], ◌∷◌, ◌++◌, ◌⊎◌, Option, option_map, find, count_by, Contains, IsNone, bytes_eq}
 use Rattle.sim_io.specs.declared.mem_files.MemFile.{MemFile}
 use Rattle.sim_io.specs.declared.files.FileFault.{FileFault}
 use Rattle.sim_io.specs.declared.files.FileFault.TheVariants.{Failed, TooLong, OutOfMemory}

@@ -47,6 +47,7 @@ fn write_whole<W: Write>(writer: &mut W, piece: &[u8]) -> bool
 }
 
 impl<W: Write> Stream<W> {
+    /// A sink over this writer, whose count is 0.
     pub fn of(writer: W) -> Self
         ensures { result ≡ record { writer = writer; faults = 0 } }
     {

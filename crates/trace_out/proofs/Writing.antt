@@ -1,10 +1,10 @@
 -- What a sink got of a text, piece by piece.
-use Rattle.std.proofs.Common.{◌≡◌, ℕ, ◌+◌, ◌-◌, ◌^◌, ◌<◌, ◌≤◌, min, List, [], ◌∷◌, ◌++◌, length, take, drop, get_or, Option, Some, None, is_some, append_assoc, ap, sym, ◌∙◌, arith, refl, subst}
+use Rattle.std.proofs.Common.{◌≡◌, ℕ, ◌+◌, ◌<◌, ◌≤◌, List, [], ◌∷◌, ◌++◌, length, take, drop, get_or, Option, Some, None, append_assoc, ap, sym, ◌∙◌, subst}
 use Rattle.std.specs.Prelude.{option_map, flat_map, Result, Ok, Err, OnErr}
 use Rattle.std.proofs.Math.Seq.{take-append_seam}
-use Rattle.std.proofs.lemmas.List.{take_more, take-append-drop, append-nil, take_all}
+use Rattle.std.proofs.lemmas.List.{take_more, take-append-drop, append-nil}
 use Rattle.std.proofs.lemmas.Grind.{flat_map-append}
-use Rattle.sim_io.specs.Sink.{Rose, Got, GotPrefix}
+use Rattle.sim_io.specs.Sink.{Got, GotPrefix}
 
 -- the sink got the texts of the first `count` items, and its count of faults did not fall
 pub record GotFirst {A : Type 0} (f : A → List ℕ) (items : List A) (count : ℕ) (old new : Option (List ℕ)) (before after : ℕ) : Type 0 where

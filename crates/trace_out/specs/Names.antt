@@ -1,5 +1,5 @@
 -- What contracts see of the names of a machine.
-use Rattle.std.specs.Prelude.{ℕ, ◌+◌, ◌-◌, ◌<◌, List, [], length, Option, unwrap_or, slice_get, nat_lt, All, if◌then◌else◌}
+use Rattle.std.specs.Prelude.{ℕ, ◌+◌, ◌-◌, ◌<◌, List, length, Option, slice_get, nat_lt, All, if◌then◌else◌}
 use Rattle.trace_out.specs.declared.names.PortName.{PortName}
 
 -- the names of the parts and of the links, and the word of each port with its part, each in the order of the numbers
