@@ -1,6 +1,5 @@
 use super::*;
 use crate::decoding::decode;
-use std::process::Abort;
 
 /// A word that reads x5 and x6 and writes x7; what the two hold; and what x7 holds then, as QEMU ran it.
 const COMPUTED: [(u32, u32, u32, u32); 89] = [
@@ -123,12 +122,13 @@ const BRANCHES: [(u32, u32, u32, bool); 24] = [
     (0x0062_f463, 0x7fff_ffff, 0x8000_0000, false),
 ];
 
-/// The effect of a word at 0x1000, where x5 and x6 hold these.
-fn effect_at(rt: &impl Abort, word: u32, first: u32, second: u32) -> Effect {
+/// The effect of a word at 0x1000, where x5 and x6 hold these, or none where the word is no instruction.
+fn effect_at(word: u32, first: u32, second: u32) -> Option<Effect> {
     let mut regs = Regs::zero();
     regs.set(5, first);
     regs.set(6, second);
-    exec(&regs, 0x1000, decode(word).expect(rt, "an instruction"))
+    let inst = decode(word).ok()?;
+    Some(exec(&regs, 0x1000, inst))
 }
 
 #[test]
@@ -140,8 +140,8 @@ fn values_are_those_of_another_machine(rt: HostRuntime) {
             next: 0x1004,
         };
         assert_eq!(rt;
-            effect_at(&rt, word, first, second),
-            went,
+            effect_at(word, first, second),
+            Some(went),
             "at {word:#010x}"
         );
     }
@@ -156,8 +156,8 @@ fn branches_are_taken_as_on_another_machine(rt: HostRuntime) {
             next: if taken { 0x1008 } else { 0x1004 },
         };
         assert_eq!(rt;
-            effect_at(&rt, word, first, second),
-            went,
+            effect_at(word, first, second),
+            Some(went),
             "at {word:#010x}"
         );
     }
@@ -174,13 +174,13 @@ fn jumps_go_to_multiples_of_4_alone(rt: HostRuntime) {
         (0x0052_9163, 0, 0, 0x1004),
     ] {
         assert_eq!(rt;
-            effect_at(&rt, word, 0x8000_0000, 0),
-            Effect::Go { rd, value, next }
+            effect_at(word, 0x8000_0000, 0),
+            Some(Effect::Go { rd, value, next })
         );
     }
     // jal x1, . + 2; jalr x1, 6(x5); beq x5, x5, . + 2
     for word in [0x0020_00ef, 0x0062_80e7, 0x0052_8163] {
-        assert_eq!(rt; effect_at(&rt, word, 0x8000_0000, 0), Effect::BadTarget);
+        assert_eq!(rt; effect_at(word, 0x8000_0000, 0), Some(Effect::BadTarget));
     }
 }
 
@@ -201,7 +201,7 @@ fn loads_and_stores_have_an_address_and_a_width(rt: HostRuntime) {
             signed,
             addr,
         };
-        assert_eq!(rt; effect_at(&rt, word, 0x8000_0000, 0), load);
+        assert_eq!(rt; effect_at(word, 0x8000_0000, 0), Some(load));
     }
     // sb x6, -1(x5); sh x6, 2(x5); sw x6, 4(x5)
     for (word, bytes, addr, value) in [
@@ -210,8 +210,8 @@ fn loads_and_stores_have_an_address_and_a_width(rt: HostRuntime) {
         (0x0062_a223, 4, 0x8000_0004, 0x1234_5678),
     ] {
         assert_eq!(rt;
-            effect_at(&rt, word, 0x8000_0000, 0x1234_5678),
-            Effect::Store { bytes, addr, value }
+            effect_at(word, 0x8000_0000, 0x1234_5678),
+            Some(Effect::Store { bytes, addr, value })
         );
     }
 }
@@ -224,6 +224,6 @@ fn the_rest_is_named(rt: HostRuntime) {
         (0x0000_0073, Effect::Call),
         (0x0010_0073, Effect::Break),
     ] {
-        assert_eq!(rt; effect_at(&rt, word, 1, 2), effect);
+        assert_eq!(rt; effect_at(word, 1, 2), Some(effect));
     }
 }
