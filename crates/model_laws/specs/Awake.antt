@@ -1,25 +1,23 @@
 -- Who is not awake makes a step that gives nothing.
-use Rattle.std.specs.Prelude.{◌≡◌, ◌≢◌, ℕ, ◌+◌, ◌-◌, ◌*◌, ◌/◌, ◌%◌, ◌<◌, ◌≤◌, ◌==◌, ◌&&◌, ◌||◌, List, [], ◌∷◌, length, Option, Some, None, Bool, true, false, slice_get, nat_lt, refl}
-use Rattle.std.proofs.Common.{zero, suc, sym, ◌∙◌, ap, subst, arith, get_or}
+use Rattle.std.specs.Prelude.{◌≡◌, ℕ, ◌+◌, ◌-◌, ◌*◌, ◌/◌, ◌%◌, ◌<◌, ◌≤◌, ◌==◌, ◌||◌, List, [], ◌∷◌, length, Option, Some, None, Bool, true, false, slice_get, refl}
+use Rattle.std.proofs.Common.{zero, suc, sym, ◌∙◌, ap, subst, arith}
 use Rattle.std.proofs.lemmas.Bool.Decides.{nat_tests}
 use Rattle.std.proofs.lemmas.Nat.{mod-mul-add}
 use Rattle.std.proofs.Math.Nat.{div-add-mod'}
-use Rattle.port_msg.specs.PortView.{PortView, port_view}
-use Rattle.tick_law.specs.Machine.{Machine, Outcome}
-use Rattle.tick_law.specs.Quiet.{Quiet, IsBelow}
-use Rattle.tick_law.specs.Frame.{PortFrame, Framed}
-use Rattle.tick_law.specs.Face.{SameFaces, face_differs}
-use Rattle.tick_law.specs.Wires.{Wires, own_of, owner_of, Has, Wired}
-use Rattle.tick_law.specs.Pass.{Side, port_at, gather, map_index, has_edge, step_of, state_if, state_after, port_from, port_after, pass, everyone, first}
+use Rattle.port_msg.specs.PortView.{PortView}
+use Rattle.tick_law.specs.Machine.{Machine}
+use Rattle.tick_law.specs.Quiet.{IsBelow}
+use Rattle.tick_law.specs.Face.{SameFaces}
+use Rattle.tick_law.specs.Wires.{Wires, own_of}
+use Rattle.tick_law.specs.Pass.{gather, has_edge, step_of, state_if, everyone}
 use Rattle.model_laws.specs.Wired.{is_same}
-use Rattle.model_laws.specs.Sleeping.{IsSound, Still, sound_gather, length-gather}
-use Rattle.tick_law.specs.Laws.{Lawful}
-use Rattle.tick_law.specs.Outcomes.{outcome_if, outcome_by, outcome, flag_of}
+use Rattle.model_laws.specs.Sleeping.{Still, sound_gather, length-gather}
+use Rattle.tick_law.specs.Outcomes.{outcome_by, flag_of}
 use Rattle.model_laws.specs.Outcome.{Idle}
 use Rattle.tick_law.specs.NextTime.{any_from, due_is}
-use Rattle.tick_law.specs.Course.{any_of, Course, after, outcome_in, flag, faced_at, faced, period_at, period, due_at, due_after, awake_at, awake}
-use Rattle.model_laws.specs.Course.{other, IsCourse}
-use Rattle.model_laws.specs.Faces.{or_left, or_right, face_kept, faces_refl, faces_trans}
+use Rattle.tick_law.specs.Course.{Course, flag, faced, period_at, period, due_at, due_after, awake_at, awake}
+use Rattle.model_laws.specs.Course.{IsCourse}
+use Rattle.model_laws.specs.Faces.{or_left, or_right, faces_trans}
 use Rattle.model_laws.specs.Rests.{state_then, state_rests, ports_rest, gap_faces}
 
 -- from one cycle to the next there is no edge in between

@@ -1,17 +1,13 @@
 -- The run of one side: what its actors find at each time, and what wakes them.
-use Rattle.std.specs.Prelude.{◌≡◌, ℕ, ◌+◌, ◌-◌, ◌*◌, ◌/◌, ◌%◌, ◌<◌, ◌≤◌, ◌==◌, ◌&&◌, ◌||◌, List, [], ◌∷◌, length, Option, Some, None, Bool, true, false, slice_get, nat_lt}
-use Rattle.std.proofs.Common.{zero, suc}
+use Rattle.std.specs.Prelude.{◌≡◌, ℕ, ◌<◌, ◌≤◌, List, length, Some, Bool, true, false}
+use Rattle.std.proofs.Common.{suc}
 use Rattle.port_msg.specs.PortView.{PortView}
-use Rattle.tick_law.specs.Machine.{Machine, Outcome}
 use Rattle.tick_law.specs.Quiet.{Quiet}
 use Rattle.tick_law.specs.Frame.{PortFrame}
-use Rattle.tick_law.specs.Wires.{Wires, own_of, Wired}
-use Rattle.tick_law.specs.Pass.{Side, port_at, pass, everyone}
-use Rattle.tick_law.specs.SerialLoop.{WorldState, System, world_at, prim, sec, parts_of, links_of}
+use Rattle.tick_law.specs.Wires.{Wired}
+use Rattle.tick_law.specs.Pass.{port_at}
 use Rattle.model_laws.specs.Sleeping.{IsSound}
 use Rattle.tick_law.specs.Laws.{Lawful}
-use Rattle.tick_law.specs.Outcomes.{outcome, flag_of}
-use Rattle.tick_law.specs.NextTime.{any_from}
 use Rattle.tick_law.specs.Course.{Course, after}
 
 abbrev pub other : Bool → Bool

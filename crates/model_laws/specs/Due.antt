@@ -1,23 +1,20 @@
 -- A pass of those whose next time is now is the whole pass, and gives the next times after it.
-use Rattle.std.specs.Prelude.{◌≡◌, ◌≢◌, ℕ, ◌+◌, ◌-◌, ◌*◌, ◌/◌, ◌%◌, ◌<◌, ◌≤◌, ◌==◌, ◌&&◌, ◌||◌, List, [], ◌∷◌, ◌++◌, length, Option, Some, None, Bool, true, false, slice_get, nat_lt, refl}
-use Rattle.std.proofs.Common.{zero, suc, sym, ◌∙◌, ap, subst, arith, get_or, add-one}
-use Rattle.port_msg.specs.PortView.{PortView, port_view}
+use Rattle.std.specs.Prelude.{◌≡◌, ℕ, ◌+◌, ◌/◌, ◌%◌, ◌<◌, ◌≤◌, ◌&&◌, List, [], ◌∷◌, length, Option, Some, None, Bool, true, false, slice_get, refl}
+use Rattle.std.proofs.Common.{zero, suc, sym, ◌∙◌, ap, subst, arith, add-one}
+use Rattle.port_msg.specs.PortView.{PortView}
 use Rattle.tick_law.specs.Machine.{Machine, Outcome}
-use Rattle.tick_law.specs.Wires.{Wires, own_of, Wired}
-use Rattle.tick_law.specs.Pass.{Side, port_at, gather, has_edge, step_of, state_if, state_after, pass, everyone}
+use Rattle.tick_law.specs.Wires.{Wires}
+use Rattle.tick_law.specs.Pass.{has_edge, step_of, state_if, state_after, pass, everyone}
 use Rattle.model_laws.specs.Wired.{is_same, is_other, length-map_index}
-use Rattle.model_laws.specs.Sleeping.{IsSound, Still, pass_sleeping}
-use Rattle.tick_law.specs.Laws.{Lawful}
-use Rattle.tick_law.specs.Outcomes.{outcome_if, outcome_by, outcome, flag_of, charge_of, records_to, stirs_to, steps_to}
+use Rattle.model_laws.specs.Sleeping.{pass_sleeping}
+use Rattle.tick_law.specs.Outcomes.{outcome_if, outcome_by, outcome, charge_of, records_to, stirs_to, steps_to}
 use Rattle.model_laws.specs.Outcome.{Idle, records_sleeping, stirs_sleeping}
-use Rattle.tick_law.specs.NextTime.{woken, edge_from, due_is, times}
-use Rattle.tick_law.specs.Course.{any_of, Course, after, flag, faced_at, faced, period_at, period, due_at, due_after, timer, awake, ready, ticked}
-use Rattle.tick_law.specs.Face.{face_differs}
+use Rattle.tick_law.specs.NextTime.{woken, due_is, times}
+use Rattle.tick_law.specs.Course.{Course, after, period, due_at, timer, awake, ready, ticked}
 use Rattle.model_laws.specs.Course.{IsCourse}
-use Rattle.model_laws.specs.Faces.{faces_refl, face_same}
 use Rattle.model_laws.specs.Rests.{state_then}
-use Rattle.model_laws.specs.Awake.{At, at_of, flag_is, is_zero, awake_or_quiet}
-use Rattle.model_laws.specs.Tables.{ticked_edge, ticked_between, ticked_sleeps, ready_next, awake_ready}
+use Rattle.model_laws.specs.Awake.{At, at_of, flag_is, awake_or_quiet}
+use Rattle.model_laws.specs.Tables.{ticked_edge, ticked_between, ticked_sleeps, awake_ready}
 
 some_below : {A : Type 0} (xs : List A) (i : ℕ) (s : A) → slice_get xs i ≡ Some s → i < length xs
 some_below [] i s e = absurd (cc)

@@ -1,22 +1,21 @@
 -- One due actor after another makes the pass of all that are due.
-use Rattle.std.proofs.Common.{◌≡◌, ◌≢◌, ℕ, ◌+◌, ◌*◌, ◌<◌, ◌≤◌, ◌/◌, List, [], ◌∷◌, ◌++◌, length, get_or, zero, suc, sym, ◌∙◌, ap, subst, arith, refl, append_assoc, append-nil}
-use Rattle.std.specs.Prelude.{Option, Some, None, Bool, true, false, ◌==◌, ◌&&◌, ◌||◌, slice_get, slice_set, map, IsTrue}
+use Rattle.std.proofs.Common.{◌≡◌, ℕ, ◌+◌, ◌<◌, ◌≤◌, ◌/◌, List, ◌++◌, length, zero, suc, sym, ◌∙◌, ap, arith, refl, append_assoc, append-nil}
+use Rattle.std.specs.Prelude.{Option, Some, None, Bool, true, false, ◌==◌, ◌||◌, slice_get, slice_set, IsTrue}
 use Rattle.std.proofs.lemmas.Bool.Decides.{nat_tests}
-use Rattle.port_msg.specs.PortView.{PortView, port_view}
-use Rattle.port_msg.specs.RecView.{RecView, records_at}
-use Rattle.port_msg.specs.declared.records.What.{What}
+use Rattle.port_msg.specs.PortView.{PortView}
+use Rattle.port_msg.specs.RecView.{records_at}
 use Rattle.port_msg.specs.declared.records.Record.{Record}
 use Rattle.tick_law.specs.Machine.{Machine, Outcome}
 use Rattle.tick_law.specs.WorldPlaces.{SidePlaces, alls, somes, emptied}
 use Rattle.tick_law.specs.Wires.{Wires, own_of, owner_of, Has, Wired}
-use Rattle.tick_law.specs.Pass.{Side, gather, map_index, has_edge, step_of, state_after, port_from, port_after, pass, also}
+use Rattle.tick_law.specs.Pass.{Side, gather, has_edge, step_of, state_after, port_from, port_after, pass, also}
 use Rattle.model_laws.specs.Pass.{scatter, whole_side, act_if, act_at}
-use Rattle.model_laws.specs.Wired.{is_same, is_other, gather_waiting, one_more, no_more, length-map_index}
-use Rattle.model_laws.specs.Gathered.{somes-alls, length-alls, put_back}
-use Rattle.model_laws.specs.Outcome.{joined, firsts, own_to, own_to_grows, length-append, outcome_at}
+use Rattle.model_laws.specs.Wired.{is_same, gather_waiting, one_more, no_more, length-map_index}
+use Rattle.model_laws.specs.Gathered.{somes-alls, put_back}
+use Rattle.model_laws.specs.Outcome.{joined, firsts, length-append, outcome_at}
 use Rattle.tick_law.specs.Outcomes.{outcome_if, outcome_by, outcome, whats_of, flag_of, charge_of, records_to, stirs_to, steps_to}
 use Rattle.model_laws.specs.Gathering.{side_places_is}
-use Rattle.model_laws.specs.Passing.{map_index_ext, map_index_back, alls_back, alls_set, alls_has, state_kept, length_states, length_ports, pass_none}
+use Rattle.model_laws.specs.Passing.{map_index_ext, map_index_back, alls_back, alls_set, alls_has, state_kept, length_states}
 
 pub firsts_wait : (stepped : ℕ → Bool) (n k : ℕ) → n ≤ k → firsts stepped n k ≡ false
 firsts_wait stepped zero k h = refl

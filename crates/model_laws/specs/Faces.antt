@@ -1,6 +1,6 @@
 -- Faces over steps of the other owner.
-use Rattle.std.specs.Prelude.{◌≡◌, ℕ, ◌+◌, ◌<◌, ◌≤◌, ◌||◌, List, [], ◌∷◌, ◌++◌, length, Option, Some, None, Bool, true, false, slice_get, nat_lt, refl}
-use Rattle.std.proofs.Common.{zero, suc, sym, ◌∙◌, ap, arith}
+use Rattle.std.specs.Prelude.{◌≡◌, ◌||◌, List, [], ◌∷◌, length, Bool, true, false, slice_get, nat_lt, refl}
+use Rattle.std.proofs.Common.{sym, ◌∙◌, ap, arith}
 use Rattle.std.proofs.lemmas.Bool.Decides.{nat_tests}
 use Rattle.port_msg.specs.PortView.{PortView}
 use Rattle.port_msg.specs.declared.message.Msg.{Msg}

@@ -1,21 +1,20 @@
 -- The two sides of a run.
-use Rattle.std.specs.Prelude.{◌≡◌, ◌≢◌, ℕ, ◌+◌, ◌-◌, ◌*◌, ◌/◌, ◌%◌, ◌<◌, ◌≤◌, ◌==◌, ◌&&◌, ◌||◌, List, [], ◌∷◌, length, Option, Some, None, Bool, true, false, slice_get, nat_lt, refl}
-use Rattle.std.proofs.Common.{zero, suc, sym, ◌∙◌, ap, subst, arith, get_or, add-one}
+use Rattle.std.specs.Prelude.{◌≡◌, ℕ, ◌/◌, ◌<◌, ◌≤◌, ◌&&◌, List, [], ◌∷◌, length, Option, Some, None, Bool, true, false, slice_get, refl}
+use Rattle.std.proofs.Common.{zero, suc, sym, ◌∙◌, subst, arith, get_or}
 use Rattle.port_msg.specs.PortView.{PortView, port_view}
-use Rattle.tick_law.specs.Machine.{Machine, Outcome}
-use Rattle.tick_law.specs.Quiet.{Quiet}
-use Rattle.tick_law.specs.Frame.{PortFrame, Frames, Framed}
+use Rattle.tick_law.specs.Machine.{Machine}
+use Rattle.tick_law.specs.Frame.{PortFrame, Frames}
 use Rattle.tick_law.specs.FrameLaws.{port_same}
-use Rattle.tick_law.specs.Wires.{Wires, own_of, owner_of, Has, Wired}
+use Rattle.tick_law.specs.Wires.{Wires, own_of, owner_of, Wired}
 use Rattle.tick_law.specs.Pass.{Side, port_at, gather, place, has_edge, step_of, port_if, port_from, port_after, pass, everyone}
-use Rattle.tick_law.specs.SerialLoop.{WorldState, System, world_at, prim, sec, parts_of, links_of}
+use Rattle.tick_law.specs.SerialLoop.{System, world_at, prim, parts_of, links_of}
 use Rattle.model_laws.specs.Wired.{get-map_index_zero, place_below, length-map_index}
 use Rattle.model_laws.specs.Whole.{IsWellFormed}
 use Rattle.model_laws.specs.Sleeping.{IsSound, sound_gather, length-gather, gather_place, pass_sound}
 use Rattle.tick_law.specs.Laws.{Lawful}
 use Rattle.model_laws.specs.Runs.{good_at}
-use Rattle.model_laws.specs.Course.{other, IsCourse}
-use Rattle.tick_law.specs.Course.{Course, after, part_course, link_course}
+use Rattle.model_laws.specs.Course.{IsCourse}
+use Rattle.tick_law.specs.Course.{part_course, link_course}
 use Rattle.tick_law.specs.Laws.{Laws}
 
 frame_at : (side : Bool) (xs ys : List PortView) (k : ℕ) (d e : PortView) → Frames side xs ys → k < length xs → PortFrame side (get_or xs k d) (get_or ys k e)

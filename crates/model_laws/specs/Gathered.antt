@@ -1,14 +1,13 @@
 -- Ports are taken out of their whole_world and put back.
-use Rattle.std.specs.Prelude.{◌≡◌, ◌≢◌, ℕ, ◌+◌, ◌-◌, ◌<◌, ◌≤◌, ◌==◌, ◌⊎◌, List, [], ◌∷◌, ◌++◌, length, map, take, drop, Option, Some, None, Bool, true, false, slice_get, slice_set, slice_index_or, refl}
-use Rattle.std.proofs.Common.{zero, suc, sym, ◌∙◌, ap, subst, arith, get_or, inl, inr, append_assoc}
-use Rattle.std.proofs.lemmas.Grind.{common_steps}
-use Rattle.std.proofs.lemmas.List.{same_lists, length-set, get_or-set_same, get_or-set_other}
+use Rattle.std.specs.Prelude.{◌≡◌, ◌≢◌, ℕ, ◌<◌, ◌==◌, ◌⊎◌, List, [], ◌∷◌, ◌++◌, length, Option, Some, None, Bool, true, false, slice_set, refl}
+use Rattle.std.proofs.Common.{zero, suc, sym, ◌∙◌, ap, arith, get_or, inl, inr}
+use Rattle.std.proofs.lemmas.List.{same_lists, length-set, get_or-set_other}
 use Rattle.port_msg.specs.PortView.{PortView, port_view}
-use Rattle.tick_law.specs.Pass.{port_at, gather, place}
+use Rattle.tick_law.specs.Pass.{place}
 use Rattle.model_laws.specs.Pass.{scatter}
-use Rattle.tick_law.specs.WorldPlaces.{alls, somes, filled, IsFull, emptied}
-use Rattle.tick_law.specs.Wires.{Has, AllApart}
-use Rattle.model_laws.specs.Wired.{is_same, is_other, has_rest, length-scatter, scatter_other, scatter_at, place_below, get_or_swap}
+use Rattle.tick_law.specs.WorldPlaces.{alls, somes, IsFull, emptied}
+use Rattle.tick_law.specs.Wires.{Has}
+use Rattle.model_laws.specs.Wired.{is_same, is_other, has_rest, length-scatter, scatter_other, scatter_at, place_below}
 
 pub somes-alls : {A : Type 0} (xs : List A) → somes (alls xs) ≡ xs
 somes-alls [] = refl

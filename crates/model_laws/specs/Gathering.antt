@@ -1,13 +1,12 @@
 -- One port more is taken out, or put back.
-use Rattle.std.proofs.Common.{inl, inr, ◌≡◌, ◌≢◌, ℕ, ◌+◌, ◌<◌, ◌≤◌, ◌/◌, List, [], ◌∷◌, ◌++◌, length, take, drop, get_or, zero, suc, sym, ◌∙◌, ap, subst, arith, refl}
-use Rattle.std.specs.Prelude.{Option, Some, None, Bool, true, false, ◌⊎◌, slice_get, slice_set, map}
-use Rattle.std.proofs.lemmas.Grind.{common_steps}
+use Rattle.std.proofs.Common.{inl, inr, ◌≡◌, ◌≢◌, ℕ, ◌+◌, ◌<◌, ◌/◌, List, [], ◌∷◌, ◌++◌, length, take, drop, get_or, zero, suc, sym, ◌∙◌, ap, subst, arith, refl}
+use Rattle.std.specs.Prelude.{Option, Some, None, true, false, ◌⊎◌, slice_get, slice_set}
 use Rattle.std.proofs.lemmas.List.{take_more, at_drop_more, map-append, length-set, length-take}
 use Rattle.std.proofs.lemmas.Option.{slice_get-get_or}
 use Rattle.port_msg.specs.PortView.{PortView, port_view}
 use Rattle.model_laws.specs.Places.{InHand}
 use Rattle.tick_law.specs.WorldPlaces.{SidePlaces, alls, somes, IsFull, emptied}
-use Rattle.tick_law.specs.Machine.{Machine, Outcome}
+use Rattle.tick_law.specs.Machine.{Machine}
 use Rattle.model_laws.specs.Pass.{scatter, act_if, act_at, side_places}
 use Rattle.tick_law.specs.Pass.{has_edge, port_at, gather}
 use Rattle.tick_law.specs.Wires.{Has, AllApart}

@@ -1,11 +1,12 @@
 -- When an actor wakes next.
-use Rattle.std.specs.Prelude.{◌≡◌, ◌≢◌, ℕ, ◌+◌, ◌-◌, ◌*◌, ◌/◌, ◌%◌, ◌<◌, ◌≤◌, ◌==◌, ◌||◌, nat_lt, Option, Some, None, Bool, true, false, refl, if◌then◌else◌}
-use Rattle.std.proofs.Common.{zero, suc, sym, ◌∙◌, ap, subst, arith, add-one}
+use Rattle.std.specs.Prelude.{◌≡◌, ◌≢◌, ℕ, ◌+◌, ◌-◌, ◌*◌, ◌/◌, ◌%◌, ◌<◌, ◌≤◌, ◌||◌, nat_lt, Option, Bool, true, false, refl}
+use Rattle.std.proofs.Common.{zero, suc, sym, ◌∙◌, ap, subst, arith}
 use Rattle.std.proofs.lemmas.Bool.Decides.{nat_tests}
 use Rattle.std.proofs.lemmas.Nat.{mod-mul-add}
 use Rattle.std.proofs.Math.Nat.{div-add-mod'}
 use Rattle.tick_law.specs.Course.{flag, timer}
-use Rattle.tick_law.specs.NextTime.{any_from, edge_from, edge_past, next_at, woken}
+use Rattle.sim_base.specs.Edge.{edge_from, edge_past}
+use Rattle.tick_law.specs.NextTime.{any_from, next_at, woken}
 
 abbrev pub next_part : ℕ → (ℕ → Bool) → (ℕ → Bool) → (ℕ → Option ℕ) → ℕ → Option ℕ
 next_part p flag changed timer d = next_at p flag changed timer d (edge_from p d)

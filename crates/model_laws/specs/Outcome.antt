@@ -1,18 +1,14 @@
 -- What the steps of one pass gave.
-use Rattle.std.specs.Prelude.{◌≡◌, ℕ, ◌+◌, ◌-◌, ◌*◌, ◌/◌, ◌%◌, ◌<◌, ◌≤◌, ◌==◌, ◌&&◌, ◌||◌, List, [], ◌∷◌, ◌++◌, length, map, Option, Some, None, Bool, true, false, slice_get, slice_index_or, refl}
+use Rattle.std.specs.Prelude.{◌≡◌, ℕ, ◌+◌, ◌*◌, ◌/◌, ◌<◌, ◌≤◌, ◌==◌, ◌&&◌, ◌||◌, List, [], ◌∷◌, ◌++◌, length, map, Option, Some, None, Bool, true, false, slice_get, slice_index_or, refl}
 use Rattle.std.proofs.Common.{zero, suc, sym, ◌∙◌, ap, subst, arith}
-use Rattle.port_msg.specs.PortView.{PortView, port_view}
-use Rattle.port_msg.specs.declared.records.What.{What}
-use Rattle.port_msg.specs.declared.records.Record.{Record}
+use Rattle.port_msg.specs.PortView.{PortView}
 use Rattle.tick_law.specs.Machine.{Machine, Outcome}
 use Rattle.port_msg.specs.RecView.{records_at}
-use Rattle.tick_law.specs.Frame.{Framed}
 use Rattle.tick_law.specs.Wires.{Wires, own_of, Wired}
-use Rattle.tick_law.specs.Pass.{Side, gather, has_edge, step_of, also, pass, everyone}
+use Rattle.tick_law.specs.Pass.{Side, gather, has_edge, step_of, also, everyone}
 use Rattle.model_laws.specs.Wired.{is_same, is_other}
 use Rattle.model_laws.specs.Sleeping.{IsSound, Still, sound_gather, length-gather}
 use Rattle.tick_law.specs.Laws.{Lawful}
-use Rattle.tick_law.specs.Course.{flag}
 use Rattle.tick_law.specs.Outcomes.{flag_of, outcome, outcome_by, outcome_if, records_to, stirs_to, whats_of}
 
 -- those that are marked

@@ -1,9 +1,8 @@
 -- One pass over the actors of one side.
-use Rattle.std.specs.Prelude.{◌≡◌, ℕ, ◌+◌, ◌-◌, ◌*◌, ◌/◌, ◌%◌, ◌^◌, ◌<◌, ◌≤◌, ◌==◌, ◌&&◌, ◌||◌, List, [], ◌∷◌, ◌++◌, length, map, Option, Some, None, Bool, true, false, slice_get, slice_set, slice_index_or, Contains, if◌then◌else◌}
-use Rattle.std.proofs.Common.{zero, suc}
-use Rattle.port_msg.specs.PortView.{PortView, port_view}
-use Rattle.tick_law.specs.Machine.{Machine, Outcome}
-use Rattle.tick_law.specs.WorldPlaces.{WorldPlaces, SidePlaces}
+use Rattle.std.specs.Prelude.{ℕ, ◌/◌, List, [], ◌∷◌, Option, Some, None, Bool, true, false, slice_set}
+use Rattle.port_msg.specs.PortView.{PortView}
+use Rattle.tick_law.specs.Machine.{Machine}
+use Rattle.tick_law.specs.WorldPlaces.{SidePlaces}
 use Rattle.tick_law.specs.Pass.{Side, gather, has_edge, pass}
 use Rattle.tick_law.specs.SerialLoop.{WorldState, with_links, with_parts}
 use Rattle.tick_law.specs.Wires.{Wires}

@@ -1,16 +1,15 @@
 -- One actor after another makes a whole pass.
-use Rattle.std.proofs.Common.{◌≡◌, ◌≢◌, ℕ, ◌+◌, ◌<◌, ◌≤◌, ◌/◌, List, [], ◌∷◌, ◌++◌, length, take, drop, get_or, zero, suc, sym, ◌∙◌, ap, subst, arith, refl}
-use Rattle.std.specs.Prelude.{Option, Some, None, Bool, true, false, ◌==◌, ◌&&◌, ◌||◌, slice_get, slice_set, map, IsTrue}
+use Rattle.std.proofs.Common.{◌≡◌, ℕ, ◌+◌, ◌<◌, ◌≤◌, ◌/◌, List, [], ◌∷◌, length, zero, suc, sym, ◌∙◌, ap, arith, refl}
+use Rattle.std.specs.Prelude.{Option, Some, None, Bool, true, false, ◌==◌, ◌||◌, slice_get, slice_set, IsTrue}
 use Rattle.std.proofs.lemmas.Bool.Decides.{nat_tests}
-use Rattle.port_msg.specs.PortView.{PortView, port_view}
+use Rattle.port_msg.specs.PortView.{PortView}
 use Rattle.tick_law.specs.Machine.{Machine, Outcome}
-use Rattle.tick_law.specs.WorldPlaces.{SidePlaces, alls, somes, IsFull, emptied}
+use Rattle.tick_law.specs.WorldPlaces.{SidePlaces, alls, somes, emptied}
 use Rattle.tick_law.specs.Wires.{Wires, own_of, owner_of, Has, Wired}
-use Rattle.tick_law.specs.Pass.{Side, port_at, gather, map_index, has_edge, step_of, state_if, state_after, port_if, port_from, port_after, pass, also, first, everyone}
-use Rattle.tick_law.specs.SerialLoop.{WorldState}
-use Rattle.model_laws.specs.Pass.{scatter, side_places, whole_side, act_if, act_at}
+use Rattle.tick_law.specs.Pass.{Side, gather, map_index, has_edge, step_of, state_after, port_from, port_after, pass, first, everyone}
+use Rattle.model_laws.specs.Pass.{scatter, whole_side, act_if, act_at}
 use Rattle.model_laws.specs.Wired.{gather_waiting, one_more, no_more, length-map_index}
-use Rattle.model_laws.specs.Gathered.{somes-alls, alls_full, length-alls, put_back}
+use Rattle.model_laws.specs.Gathered.{somes-alls, put_back}
 use Rattle.model_laws.specs.Gathering.{side_places_is}
 
 first_below : (n k : ℕ) → k < n → first n k ≡ true

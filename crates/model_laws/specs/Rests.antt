@@ -1,25 +1,16 @@
 -- An actor that makes no step, or one that changes nothing, stays as it is, and so do its ports.
-use Rattle.std.specs.Prelude.{◌≡◌, ◌≢◌, ℕ, ◌+◌, ◌-◌, ◌*◌, ◌/◌, ◌%◌, ◌<◌, ◌≤◌, ◌==◌, ◌&&◌, ◌||◌, List, [], ◌∷◌, length, Option, Some, None, Bool, true, false, slice_get, nat_lt, refl}
-use Rattle.std.proofs.Common.{zero, suc, sym, ◌∙◌, ap, subst, arith, get_or}
-use Rattle.std.proofs.lemmas.Bool.Decides.{nat_tests}
-use Rattle.std.proofs.lemmas.Nat.{mod-mul-add}
-use Rattle.std.proofs.Math.Nat.{div-add-mod'}
+use Rattle.std.specs.Prelude.{◌≡◌, ℕ, ◌+◌, ◌<◌, List, [], ◌∷◌, length, Some, Bool, true, false, slice_get, refl}
+use Rattle.std.proofs.Common.{zero, suc, sym, ◌∙◌, ap, subst, arith}
 use Rattle.port_msg.specs.PortView.{PortView, port_view}
-use Rattle.tick_law.specs.Machine.{Machine, Outcome}
-use Rattle.tick_law.specs.Quiet.{Quiet, IsBelow}
-use Rattle.tick_law.specs.Frame.{PortFrame, Framed}
-use Rattle.tick_law.specs.Face.{SameFaces, face_differs}
+use Rattle.tick_law.specs.Machine.{Machine}
+use Rattle.tick_law.specs.Face.{SameFaces}
 use Rattle.tick_law.specs.Wires.{Wires, own_of, owner_of, Has, Wired}
-use Rattle.tick_law.specs.Pass.{Side, port_at, gather, map_index, has_edge, step_of, state_if, state_after, port_from, port_after, pass, everyone, first}
-use Rattle.model_laws.specs.Wired.{gather_same, get-map_index_zero, port_kept, is_same, is_other}
-use Rattle.model_laws.specs.Sleeping.{IsSound, Still, sleeping_port_of, sound_gather, length-gather, get_below, time}
-use Rattle.tick_law.specs.Laws.{Lawful}
-use Rattle.tick_law.specs.Outcomes.{outcome_if, outcome_by, outcome, flag_of}
-use Rattle.model_laws.specs.Outcome.{Idle}
-use Rattle.tick_law.specs.NextTime.{any_from, due_is}
-use Rattle.tick_law.specs.Course.{any_of, Course, after, outcome_in, flag, faced_at, faced, period_at, period, due_at, due_after, awake}
-use Rattle.model_laws.specs.Course.{other, IsCourse}
-use Rattle.model_laws.specs.Faces.{or_left, or_right, face_kept, faces_refl, faces_trans}
+use Rattle.tick_law.specs.Pass.{Side, port_at, gather, map_index, has_edge, step_of, state_if, state_after, port_after, pass, everyone, first}
+use Rattle.model_laws.specs.Wired.{gather_same, get-map_index_zero, port_kept}
+use Rattle.model_laws.specs.Sleeping.{Still, sleeping_port_of}
+use Rattle.tick_law.specs.Course.{any_of, Course, after, faced_at}
+use Rattle.model_laws.specs.Course.{IsCourse}
+use Rattle.model_laws.specs.Faces.{or_left, or_right, face_kept}
 
 pub get_map_some : {A B : Type 0} (f : ℕ → A → B) (i : ℕ) (xs : List A) (k : ℕ) (x : A) → slice_get xs k ≡ Some x → slice_get (map_index f i xs) k ≡ Some (f (i + k) x)
 get_map_some f i [] k x e = absurd (cc)

@@ -1,25 +1,18 @@
 -- What a run records, when it stirs, stepped is awake in it, and how its next times go on.
-use Rattle.std.specs.Prelude.{◌≡◌, ◌≢◌, ℕ, ◌+◌, ◌-◌, ◌*◌, ◌/◌, ◌%◌, ◌<◌, ◌≤◌, ◌==◌, ◌&&◌, ◌||◌, List, [], ◌∷◌, ◌++◌, length, Option, Some, None, Bool, true, false, slice_get, nat_lt, refl}
-use Rattle.std.proofs.Common.{zero, suc, sym, ◌∙◌, ap, subst, arith, add-one}
+use Rattle.std.specs.Prelude.{◌≡◌, ℕ, ◌<◌, ◌≤◌, List, [], ◌∷◌, length, Option, Bool, false, refl}
+use Rattle.std.proofs.Common.{zero, suc, sym, ◌∙◌, ap}
 use Rattle.port_msg.specs.PortView.{PortView}
-use Rattle.port_msg.specs.declared.records.Record.{Record}
-use Rattle.tick_law.specs.Machine.{Machine, Outcome}
-use Rattle.tick_law.specs.Wires.{Wires, own_of, owner_of}
-use Rattle.tick_law.specs.Pass.{Side, port_at, pass, everyone, first}
-use Rattle.tick_law.specs.SerialLoop.{WorldState, System, world_at, prim, sec, parts_of, links_of}
-use Rattle.model_laws.specs.Pass.{parts_pass, links_pass}
-use Rattle.tick_law.specs.Outcomes.{outcome, records, stirs, steps_of, records_to, stirs_to, steps_to}
-use Rattle.tick_law.specs.NextTime.{woken, edge_from, due_is}
+use Rattle.tick_law.specs.Wires.{own_of, owner_of}
+use Rattle.tick_law.specs.Pass.{Side, port_at, first}
+use Rattle.tick_law.specs.SerialLoop.{WorldState, parts_of, links_of}
+use Rattle.tick_law.specs.NextTime.{woken}
 use Rattle.model_laws.specs.Passing.{pass_none}
 use Rattle.model_laws.specs.Dues.{pass_same}
-use Rattle.tick_law.specs.Course.{any_of, Course, after, flag, faced_at, faced, period, awake, part_course, link_course, ready, ticked}
+use Rattle.tick_law.specs.Course.{any_of, Course, after, faced_at, faced}
 use Rattle.tick_law.specs.Face.{face_differs}
 use Rattle.model_laws.specs.Course.{IsCourse}
-use Rattle.model_laws.specs.Faces.{faces_refl, face_same, face_refl}
-use Rattle.model_laws.specs.Awake.{At, at_of}
-use Rattle.model_laws.specs.Tables.{ready_next, ticked_sleeps}
-use Rattle.model_laws.specs.Due.{due_at_time, next_after, due_whole, due_records, due_stirs, due_steps, next_is}
-use Rattle.model_laws.specs.Gaps.{IsSetUp, part_is, link_is}
+use Rattle.model_laws.specs.Faces.{face_same, face_refl}
+use Rattle.model_laws.specs.Due.{due_at_time, due_whole}
 
 face_still : (side : Bool) (a : PortView) → face_differs side a a ≡ false
 face_still side a = face_same side a a (face_refl side a)

@@ -1,14 +1,12 @@
 -- Each world of the run is good.
-use Rattle.std.proofs.Common.{◌≡◌, ℕ, ◌+◌, ◌<◌, ◌≤◌, List, length, zero, suc, ap, subst, sym, ◌∙◌, arith, refl}
-use Rattle.std.specs.Prelude.{Option, Some, None, slice_get}
+use Rattle.std.proofs.Common.{◌≡◌, ℕ, ◌≤◌, List, length, zero, suc, subst, sym, ◌∙◌, arith}
 use Rattle.port_msg.specs.PortView.{PortView}
 use Rattle.tick_law.specs.Machine.{Machine}
-use Rattle.tick_law.specs.WorldPlaces.{WorldPlaces, alls, somes, IsWhole}
-use Rattle.tick_law.specs.Wires.{Wires, own_of, owner_of, Wired}
-use Rattle.tick_law.specs.Pass.{Side, everyone, pass}
+use Rattle.tick_law.specs.WorldPlaces.{alls, somes, IsWhole}
+use Rattle.tick_law.specs.Wires.{Wires, Wired}
+use Rattle.tick_law.specs.Pass.{Side, everyone}
 use Rattle.tick_law.specs.SerialLoop.{WorldState, System, prim, sec, world_at, whole_world, world_of, parts_of, links_of}
-use Rattle.model_laws.specs.Pass.{side_of}
-use Rattle.model_laws.specs.Whole.{HasRoom, IsWellFormed, system}
+use Rattle.model_laws.specs.Whole.{HasRoom, IsWellFormed}
 use Rattle.model_laws.specs.Sleeping.{IsSound, pass_sound}
 use Rattle.tick_law.specs.Laws.{Lawful}
 use Rattle.model_laws.specs.Gathered.{somes-alls, alls_full}

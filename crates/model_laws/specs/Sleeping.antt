@@ -1,13 +1,12 @@
 -- Who sleeps changes nothing.
-use Rattle.std.specs.Prelude.{◌≡◌, ◌≢◌, ℕ, ◌+◌, ◌*◌, ◌/◌, ◌%◌, ◌<◌, ◌≤◌, ◌==◌, ◌&&◌, ◌||◌, List, [], ◌∷◌, ◌++◌, length, map, Option, Some, None, Bool, true, false, slice_get, slice_set, slice_index_or, refl}
+use Rattle.std.specs.Prelude.{◌≡◌, ℕ, ◌+◌, ◌*◌, ◌/◌, ◌<◌, ◌≤◌, ◌==◌, ◌&&◌, List, [], ◌∷◌, length, Option, Some, None, Bool, true, false, slice_get, refl}
 use Rattle.std.proofs.Common.{zero, suc, sym, ◌∙◌, ap, subst, arith, get_or}
 use Rattle.port_msg.specs.PortView.{PortView, port_view}
-use Rattle.tick_law.specs.Machine.{Machine, Outcome}
-use Rattle.tick_law.specs.Frame.{Framed, Frames, AllPorts, IsPort}
-use Rattle.tick_law.specs.Quiet.{Quiet}
+use Rattle.tick_law.specs.Machine.{Machine}
+use Rattle.tick_law.specs.Frame.{AllPorts, IsPort}
 use Rattle.tick_law.specs.Wires.{Wires, own_of, owner_of, Has, Wired}
-use Rattle.tick_law.specs.Pass.{Side, port_at, gather, place, next_place, map_index, has_edge, step_of, state_if, port_if, state_after, port_from, port_after, also, pass, everyone}
-use Rattle.model_laws.specs.Wired.{is_same, is_other, has_rest, length-map_index, place_below}
+use Rattle.tick_law.specs.Pass.{Side, port_at, gather, place, next_place, map_index, has_edge, step_of, state_if, port_if, state_after, port_from, port_after, pass, everyone}
+use Rattle.model_laws.specs.Wired.{is_same, is_other, has_rest}
 use Rattle.tick_law.specs.Laws.{Lawful}
 
 map_index_agree : {A B : Type 0} (f g : ℕ → A → B) (i : ℕ) (xs : List A) → ((k : ℕ) (x : A) → slice_get xs k ≡ Some x → f (i + k) x ≡ g (i + k) x) → map_index f i xs ≡ map_index g i xs

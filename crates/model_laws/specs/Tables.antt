@@ -1,26 +1,17 @@
 -- Next times of one side, and how they go on.
-use Rattle.std.specs.Prelude.{◌≡◌, ◌≢◌, ℕ, ◌+◌, ◌-◌, ◌*◌, ◌/◌, ◌%◌, ◌<◌, ◌≤◌, ◌==◌, ◌&&◌, ◌||◌, List, [], ◌∷◌, length, Option, Some, None, Bool, true, false, slice_get, nat_lt, refl}
-use Rattle.std.proofs.Common.{zero, suc, sym, ◌∙◌, ap, subst, arith, get_or, add-one}
+use Rattle.std.specs.Prelude.{◌≡◌, ◌≢◌, ℕ, ◌+◌, ◌-◌, ◌*◌, ◌/◌, ◌%◌, ◌<◌, ◌≤◌, ◌==◌, ◌||◌, length, Option, Some, None, Bool, true, false, slice_get, refl}
+use Rattle.std.proofs.Common.{zero, suc, sym, ◌∙◌, ap, subst, arith}
 use Rattle.std.proofs.lemmas.Bool.Decides.{nat_tests}
-use Rattle.std.proofs.lemmas.Nat.{mod-mul-add}
-use Rattle.std.proofs.Math.Nat.{div-add-mod'}
-use Rattle.port_msg.specs.PortView.{PortView, port_view}
-use Rattle.tick_law.specs.Machine.{Machine, Outcome}
-use Rattle.tick_law.specs.Quiet.{IsBelow}
-use Rattle.tick_law.specs.Wires.{Wires, own_of, Wired}
-use Rattle.tick_law.specs.Pass.{Side, gather, has_edge, step_of, pass, everyone}
+use Rattle.tick_law.specs.Pass.{has_edge}
 use Rattle.model_laws.specs.Wired.{is_same, is_other}
-use Rattle.model_laws.specs.Sleeping.{IsSound, Still}
-use Rattle.tick_law.specs.Laws.{Lawful}
-use Rattle.tick_law.specs.Outcomes.{outcome, flag_of}
-use Rattle.model_laws.specs.Outcome.{Idle}
-use Rattle.tick_law.specs.NextTime.{any_from, woken, edge_from, edge_past, next_at, due_is, times}
-use Rattle.model_laws.specs.Next.{next_part, next_some, edge_between, edge_here, edge_after, woken_or}
-use Rattle.tick_law.specs.Course.{Course, after, flag, faced, period, due_at, due_after, timer, awake_at, awake}
+use Rattle.sim_base.specs.Edge.{edge_from, edge_past}
+use Rattle.tick_law.specs.NextTime.{any_from, woken, next_at, due_is, times}
+use Rattle.model_laws.specs.Next.{next_some, edge_between, edge_here, edge_after, woken_or}
+use Rattle.tick_law.specs.Course.{Course, flag, faced, period, due_at, due_after, timer, awake_at, awake}
 use Rattle.model_laws.specs.Course.{IsCourse}
 use Rattle.model_laws.specs.Faces.{or_left, or_right}
 use Rattle.model_laws.specs.Rests.{state_rests}
-use Rattle.model_laws.specs.Awake.{At, at_of, stays, asleep_stays, awake_is, cycle_of, cycle_then, edge_then, edge_before, mod_edge, flag_is, idle_of, is_zero, awake_or_quiet}
+use Rattle.model_laws.specs.Awake.{At, at_of, asleep_stays, awake_is, cycle_of, cycle_then, edge_before, mod_edge, flag_is, idle_of, is_zero, awake_or_quiet}
 use Rattle.tick_law.specs.Course.{next_in, ready, ticked}
 
 mod_within : (d p : ℕ) → 0 < p → d % p < p

@@ -1,25 +1,22 @@
 -- One time of the sleeping engine, and times at which nobody is due.
-use Rattle.std.specs.Prelude.{◌≡◌, ◌≢◌, ℕ, ◌+◌, ◌-◌, ◌*◌, ◌/◌, ◌%◌, ◌<◌, ◌≤◌, ◌==◌, ◌&&◌, ◌||◌, List, [], ◌∷◌, ◌++◌, length, Option, Some, None, Bool, true, false, slice_get, nat_lt, refl}
-use Rattle.std.proofs.Common.{zero, suc, sym, ◌∙◌, ap, subst, arith, add-one, append-nil}
-use Rattle.port_msg.specs.PortView.{PortView}
-use Rattle.port_msg.specs.declared.records.What.{What}
-use Rattle.port_msg.specs.declared.records.Record.{Record}
-use Rattle.tick_law.specs.Machine.{Machine, Outcome}
+use Rattle.std.specs.Prelude.{◌≡◌, ℕ, ◌+◌, ◌%◌, ◌<◌, ◌≤◌, [], ◌++◌, length, Option, Some, Bool, true, false, refl}
+use Rattle.std.proofs.Common.{zero, suc, sym, ◌∙◌, ap, subst, arith, add-one}
+use Rattle.tick_law.specs.Machine.{Machine}
 use Rattle.port_msg.specs.RecView.{records_at}
 use Rattle.tick_law.specs.Wires.{Wires, own_of, owner_of}
-use Rattle.tick_law.specs.Pass.{Side, port_at, pass, everyone, first}
-use Rattle.tick_law.specs.SerialLoop.{WorldState, System, world_at, prim, sec, parts_of, links_of, mid, records_at_time, stirs_at}
+use Rattle.tick_law.specs.Pass.{Side, port_at, everyone}
+use Rattle.tick_law.specs.SerialLoop.{WorldState, System, world_at, parts_of, links_of, mid, records_at_time, stirs_at}
 use Rattle.tick_law.specs.Outcomes.{outcome, whats_of, flag_of, charge_of, records, stirs, steps_of, records_to, stirs_to, steps_to}
-use Rattle.model_laws.specs.Wired.{length-map_index}
-use Rattle.tick_law.specs.NextTime.{any_from, woken, edge_from, next_at, due_is}
+use Rattle.sim_base.specs.Edge.{edge_from}
+use Rattle.tick_law.specs.NextTime.{woken, next_at, due_is}
 use Rattle.model_laws.specs.Dues.{outcome_none}
-use Rattle.tick_law.specs.Course.{any_of, Course, after, flag, faced_at, faced, timer, period, awake, part_course, link_course, ready, ticked, next_in}
+use Rattle.tick_law.specs.Course.{any_of, Course, after, flag, faced, timer, period, awake, part_course, link_course, ready, ticked}
 use Rattle.tick_law.specs.Face.{face_differs}
 use Rattle.model_laws.specs.Course.{IsCourse}
-use Rattle.model_laws.specs.Awake.{At, at_of}
+use Rattle.model_laws.specs.Awake.{at_of}
 use Rattle.model_laws.specs.Tables.{ready_next, ticked_sleeps, edge_at}
-use Rattle.model_laws.specs.Due.{due_at_time, next_after, due_whole, due_records, due_stirs, due_steps, next_is, count_is}
-use Rattle.model_laws.specs.Gaps.{IsSetUp, part_is, link_is, port_count, mid_count, world_good}
+use Rattle.model_laws.specs.Due.{due_at_time, due_records, due_stirs, due_steps, count_is}
+use Rattle.model_laws.specs.Gaps.{IsSetUp, part_is, link_is, port_count, mid_count}
 use Rattle.tick_law.specs.Verdict.{awake_now, part_next, link_next}
 use Rattle.model_laws.specs.Run.{rests_whole, gap_rests, side_parts, side_links, woken_no}
 

@@ -4,7 +4,6 @@ use Rattle.tick_law.specs.Machine.{Machine}
 use Rattle.tick_law.specs.Wires.{Wires, own_of, owner_of, Wired}
 use Rattle.tick_law.specs.Pass.{Side}
 use Rattle.tick_law.specs.SerialLoop.{WorldState, System}
-use Rattle.tick_law.specs.WorldPlaces.{IsFull, WorldPlaces}
 use Rattle.model_laws.specs.Sleeping.{IsSound}
 use Rattle.tick_law.specs.SerialLoop.{links_of, parts_of}
 

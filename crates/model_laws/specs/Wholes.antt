@@ -1,10 +1,9 @@
 -- Two passes make a time.
-use Rattle.std.proofs.Common.{◌≡◌, ℕ, ◌<◌, ◌≤◌, List, length, ap, subst, sym, ◌∙◌, arith, refl}
-use Rattle.std.specs.Prelude.{Option, Some, None, slice_get}
+use Rattle.std.proofs.Common.{◌≡◌, List, ap, ◌∙◌}
+use Rattle.std.specs.Prelude.{Option}
 use Rattle.port_msg.specs.PortView.{PortView}
-use Rattle.tick_law.specs.WorldPlaces.{WorldPlaces, SidePlaces, alls, somes}
-use Rattle.tick_law.specs.Pass.{Side}
-use Rattle.model_laws.specs.Pass.{side_of, side_places}
+use Rattle.tick_law.specs.WorldPlaces.{WorldPlaces, alls, somes}
+use Rattle.model_laws.specs.Pass.{side_of}
 use Rattle.model_laws.specs.Gathered.{somes-alls}
 
 pub side_alls : {S : Type 0} (a : List (Option S)) (b : List (Option PortView)) (x : List S) (y : List PortView) → a ≡ alls x → b ≡ alls y → side_of a b ≡ record { states = x; ports = y }

@@ -1,16 +1,14 @@
 -- One more actor of a pass.
-use Rattle.std.specs.Prelude.{◌≡◌, ◌≢◌, ℕ, ◌+◌, ◌-◌, ◌*◌, ◌/◌, ◌%◌, ◌<◌, ◌≤◌, ◌==◌, ◌&&◌, ◌||◌, List, [], ◌∷◌, ◌++◌, length, map, Option, Some, None, Bool, true, false, slice_get, slice_set, slice_index_or, refl}
+use Rattle.std.specs.Prelude.{◌≡◌, ◌≢◌, ℕ, ◌+◌, ◌<◌, ◌==◌, List, [], ◌∷◌, length, Option, Some, None, Bool, true, false, slice_get, slice_set, refl}
 use Rattle.std.proofs.Common.{zero, suc, sym, ◌∙◌, ap, subst, arith, get_or}
-use Rattle.std.proofs.lemmas.Grind.{common_steps}
 use Rattle.std.proofs.lemmas.Bool.Decides.{nat_tests}
 use Rattle.std.proofs.lemmas.List.{same_lists, length-set, get_or-set_same, get_or-set_other}
 use Rattle.std.proofs.lemmas.Option.{get_or_from_slice_get}
 use Rattle.port_msg.specs.PortView.{PortView, port_view}
-use Rattle.tick_law.specs.Machine.{Machine, Outcome}
+use Rattle.tick_law.specs.Machine.{Machine}
 use Rattle.tick_law.specs.Wires.{Wires, own_of, owner_of}
-use Rattle.tick_law.specs.Pass.{Side, port_at, gather, next_place, place, map_index, has_edge, step_of, state_if, port_if, state_after, port_from, port_after, also, pass}
+use Rattle.tick_law.specs.Pass.{Side, port_at, gather, next_place, place, map_index, has_edge, step_of, state_after, port_from, port_after, also, pass}
 use Rattle.model_laws.specs.Pass.{scatter}
-use Rattle.tick_law.specs.Pass.{first}
 use Rattle.tick_law.specs.Wires.{Has, Wired}
 
 pub length-map_index : {A B : Type 0} (f : ℕ → A → B) (i : ℕ) (xs : List A) → length (map_index f i xs) ≡ length xs

@@ -1,5 +1,5 @@
 -- A link of any kind: its step is that of its kind.
-use Rattle.std.specs.Prelude.{◌≡◌, ℕ, ◌*◌, ◌^◌, ◌<◌, ◌≤◌, List, length, Option, Some, Bool, true, false}
+use Rattle.std.specs.Prelude.{◌≡◌, ℕ, ◌*◌, ◌^◌, ◌<◌, ◌≤◌, List, length, Option, Some, Bool, false}
 use Rattle.std.proofs.Common.{ap}
 use Rattle.port_msg.specs.PortView.{PortView}
 use Rattle.tick_law.specs.Machine.{Machine, Outcome}

@@ -1,9 +1,9 @@
 -- The plan of a ring is a plan.
-use Rattle.std.proofs.Common.{◌≡◌, ◌≢◌, ℕ, ◌+◌, ◌*◌, ◌%◌, ◌<◌, ◌≤◌, List, [], ◌∷◌, ◌++◌, length, take, drop, map, get_or, zero, suc, sym, ◌∙◌, ap, subst, arith, refl, length-append, append_assoc}
-use Rattle.std.specs.Prelude.{Option, Some, None, Bool, true, false, slice_get, slice_index_or, nat_lt, ◌⊎◌}
+use Rattle.std.proofs.Common.{◌≡◌, ℕ, ◌<◌, ◌≤◌, List, [], ◌∷◌, ◌++◌, length, take, drop, map, get_or, zero, suc, sym, ◌∙◌, ap, subst, arith, refl, length-append}
+use Rattle.std.specs.Prelude.{Some, Bool, true, false, slice_get, slice_index_or, nat_lt, ◌⊎◌}
 use Rattle.std.proofs.Common.{inl, inr}
 use Rattle.std.proofs.lemmas.Bool.Decides.{nat_tests}
-use Rattle.std.proofs.lemmas.List.{map-append, take-append-le}
+use Rattle.std.proofs.lemmas.List.{map-append}
 use Rattle.tick_law.specs.Wires.{Wires, Wired, own_of, owner_of, Has, AllApart}
 use Rattle.tick_law.specs.PlanView.{PlanView, IsPlan, part_wires, link_wires}
 use Rattle.tick_law.specs.declared.port_plan.PortPlan.{PortPlan}

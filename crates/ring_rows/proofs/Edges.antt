@@ -1,6 +1,7 @@
 -- Edges, computed by hand.
 use Rattle.std.specs.Prelude.{◌≡◌, Some, None, true, false, refl}
-use Rattle.tick_law.specs.NextTime.{edge_from, any_from, next_at, times}
+use Rattle.sim_base.specs.Edge.{edge_from}
+use Rattle.tick_law.specs.NextTime.{next_at, times}
 
 pub edge_from_0 : edge_from 7 0 ≡ 0
 edge_from_0 = refl

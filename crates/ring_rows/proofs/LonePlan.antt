@@ -1,8 +1,8 @@
 -- The ring of one relay is a plan.
-use Rattle.std.specs.Prelude.{◌≡◌, ℕ, ◌+◌, ◌<◌, ◌≤◌, List, [], ◌∷◌, length, Some, slice_get, slice_index_or, refl}
+use Rattle.std.specs.Prelude.{◌≡◌, ℕ, ◌<◌, ◌≤◌, List, [], ◌∷◌, length, Some, slice_get, refl}
 use Rattle.std.proofs.Common.{zero, suc, sym, subst, arith}
 use Rattle.tick_law.specs.Wires.{Wires, Wired, Has, AllApart, own_of, owner_of}
-use Rattle.tick_law.specs.PlanView.{PlanView, IsPlan, part_wires, link_wires}
+use Rattle.tick_law.specs.PlanView.{PlanView, IsPlan}
 use Rattle.tick_law.specs.declared.port_plan.PortPlan.{PortPlan}
 use Rattle.part_kind.specs.Part.{part}
 use Rattle.part_kind.specs.LinkKind.{link}

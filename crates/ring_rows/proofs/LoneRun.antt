@@ -1,10 +1,8 @@
 -- The first time of the ring of one relay: its token is sent and comes back.
-use Rattle.std.specs.Prelude.{◌≡◌, [], ◌∷◌, Some, None, true, refl}
-use Rattle.port_msg.specs.PortView.{port_view}
+use Rattle.std.specs.Prelude.{◌≡◌, [], ◌∷◌, refl}
 use Rattle.port_msg.specs.RecView.{record_of}
-use Rattle.port_msg.specs.declared.message.Msg.{Msg}
 use Rattle.port_msg.specs.declared.records.What.TheVariants.{Send, Move}
-use Rattle.tick_law.specs.SerialLoop.{WorldState, world_at, records_below, end_below, edges_below}
+use Rattle.tick_law.specs.SerialLoop.{world_at, records_below, edges_below}
 use Rattle.tick_law.specs.Verdict.{verdict_at, end_at}
 use Rattle.tick_law.specs.declared.verdict.Verdict.TheVariants.{Cut}
 use Rattle.traffic_parts.specs.Relay.{token}

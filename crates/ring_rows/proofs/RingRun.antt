@@ -3,7 +3,6 @@ use Rattle.std.specs.Prelude.{◌≡◌, [], ◌∷◌, Some, None, refl}
 use Rattle.port_msg.specs.PortView.{port_view}
 use Rattle.port_msg.specs.RecView.{record_of}
 use Rattle.port_msg.specs.declared.message.Msg.{Msg}
-use Rattle.port_msg.specs.declared.records.Record.{Record}
 use Rattle.port_msg.specs.declared.records.What.TheVariants.{Send, Take, Move}
 use Rattle.tick_law.specs.SerialLoop.{world_at, records_below, records_at_time, end_below, edges_below}
 use Rattle.traffic_parts.specs.Relay.{token}

@@ -1,5 +1,5 @@
 -- A ring of three relays, all of one period, told in periods: a token of six hops goes round twice.
-use Rattle.std.specs.Prelude.{ℕ, [], ◌∷◌, Option, Some, None}
+use Rattle.std.specs.Prelude.{ℕ, [], ◌∷◌, Some, None}
 use Rattle.port_msg.specs.PortView.{port_view}
 use Rattle.tick_law.specs.SerialLoop.{System}
 use Rattle.part_kind.specs.Part.{part}

@@ -1,6 +1,5 @@
 -- Lists that are filled item by item.
-use Rattle.std.proofs.Common.{◌≡◌, ℕ, ◌+◌, ◌<◌, List, [], ◌∷◌, ◌++◌, length, take, map, get_or, zero, suc, sym, ◌∙◌, ap, arith, refl}
-use Rattle.std.specs.Prelude.{Option, Some, None, slice_get, replicate}
+use Rattle.std.proofs.Common.{◌≡◌, ℕ, ◌+◌, ◌<◌, List, [], ◌∷◌, ◌++◌, length, take, map, get_or, sym, ◌∙◌, ap}
 use Rattle.std.proofs.lemmas.List.{take_more, map-append}
 
 -- one item more on both sides

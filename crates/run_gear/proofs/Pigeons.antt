@@ -1,5 +1,5 @@
 -- Different numbers below a bound are no more than the bound.
-use Rattle.std.proofs.Common.{◌≡◌, ◌≢◌, ℕ, ◌+◌, ◌<◌, ◌≤◌, List, [], ◌∷◌, ◌++◌, length, get_or, zero, suc, sym, ◌∙◌, ap, subst, arith, refl, inl, inr, length-append}
+use Rattle.std.proofs.Common.{◌≡◌, ◌≢◌, ℕ, ◌+◌, ◌<◌, ◌≤◌, List, [], ◌∷◌, ◌++◌, length, zero, suc, sym, ◌∙◌, subst, arith, refl, inl, inr, length-append}
 use Rattle.std.specs.Prelude.{Bool, true, false, ◌==◌, ◌⊎◌}
 use Rattle.std.proofs.lemmas.Bool.Decides.{nat_tests}
 use Rattle.tick_law.specs.Wires.{Wires, Wired, own_of, owner_of, Has, AllApart}

@@ -1,18 +1,17 @@
 -- The gear of a plan is fit for its run.
-use Rattle.std.proofs.Common.{◌≡◌, ℕ, ◌+◌, ◌*◌, ◌<◌, ◌≤◌, List, [], ◌∷◌, length, take, drop, map, get_or, zero, suc, sym, ◌∙◌, ap, subst, arith, refl, length-take, length-drop}
-use Rattle.std.specs.Prelude.{Option, Some, None, slice_get, slice_index_or, true, false}
+use Rattle.std.proofs.Common.{◌≡◌, ℕ, ◌+◌, ◌*◌, ◌<◌, ◌≤◌, List, [], ◌∷◌, length, map, get_or, zero, suc, sym, ◌∙◌, ap, subst, arith, refl, length-take, length-drop}
+use Rattle.std.specs.Prelude.{Some, slice_get, true, false}
 use Rattle.port_msg.specs.PortView.{PortView, port_view}
 use Rattle.tick_law.specs.Machine.{Machine}
 use Rattle.tick_law.specs.Frame.{IsPort}
 use Rattle.tick_law.specs.Laws.{Laws}
-use Rattle.tick_law.specs.Wires.{Wires, Wired, own_of, owner_of}
-use Rattle.tick_law.specs.Pass.{Side}
-use Rattle.tick_law.specs.SerialLoop.{System, WorldState, parts_of, links_of}
+use Rattle.tick_law.specs.Wires.{Wires, Wired}
+use Rattle.tick_law.specs.SerialLoop.{parts_of, links_of}
 use Rattle.tick_law.specs.Course.{period_at, period, part_course, link_course}
 use Rattle.tick_law.specs.PlanView.{PlanView, IsPlan, part_wires, link_wires, start_of, system_of}
 use Rattle.tick_law.specs.declared.port_plan.PortPlan.{PortPlan}
 use Rattle.model_laws.specs.Sleeping.{IsSound}
-use Rattle.model_laws.specs.Whole.{HasRoom, IsWellFormed}
+use Rattle.model_laws.specs.Whole.{HasRoom}
 use Rattle.model_laws.specs.Gaps.{IsSetUp}
 use Rattle.model_laws.specs.Outcome.{own_to}
 use Rattle.time_step.specs.Gear.{Fitted}

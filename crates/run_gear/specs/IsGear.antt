@@ -1,5 +1,5 @@
 -- What is true of the gear of a run at its beginning.
-use Rattle.std.specs.Prelude.{◌≡◌, ℕ, ◌+◌, ◌*◌, ◌≤◌, List, [], length, Some, replicate}
+use Rattle.std.specs.Prelude.{◌≡◌, ◌+◌, ◌*◌, ◌≤◌, [], length, Some, replicate}
 use Rattle.tick_law.specs.Machine.{Machine}
 use Rattle.tick_law.specs.PlanView.{PlanView, part_wires, link_wires, system_of}
 use Rattle.model_laws.specs.Outcome.{own_to}

@@ -1,5 +1,4 @@
-ghost use Rattle.std.specs.Prelude.{◌≡◌, ℕ, ◌<◌, ◌≤◌, map, replicate, IfOk, Some, length, slice_get, slice_index_or, vec_len};
-ghost use Rattle.time_step.specs.Table.{next_at_place};
+ghost use Rattle.std.specs.Prelude.{◌≡◌, ℕ, ◌<◌, map, replicate, IfOk, Some, length, slice_get};
 
 use sim_base::OutOfMemory;
 use std::alloc::Global;

@@ -1,17 +1,15 @@
 -- A run's first boundary, and what is read from its last one.
 use Rattle.std.proofs.Common.{◌≡◌, ℕ, ◌+◌, ◌%◌, ◌<◌, ◌≤◌, List, length, get_or, replicate, take, drop, ◌++◌, zero, suc, sym, ◌∙◌, ap, subst, arith, refl, add-one}
-use Rattle.std.specs.Prelude.{Option, Some, None, Bool, true, false, ◌||◌}
+use Rattle.std.specs.Prelude.{Option, Some, None, ◌||◌}
 use Rattle.std.proofs.lemmas.List.{length-replicate, take-append-le}
 use Rattle.std.proofs.Math.Seq.{take-length}
-use Rattle.port_msg.specs.PortView.{PortView}
 use Rattle.tick_law.specs.Machine.{Machine}
 use Rattle.tick_law.specs.Wires.{Wires}
-use Rattle.tick_law.specs.WorldPlaces.{WorldPlaces, somes, alls, IsFull}
-use Rattle.tick_law.specs.SerialLoop.{System, WorldState, world_at, whole_world}
-use Rattle.tick_law.specs.NextTime.{edge_from, next_at}
+use Rattle.tick_law.specs.WorldPlaces.{WorldPlaces, somes, IsFull}
+use Rattle.tick_law.specs.SerialLoop.{System, world_at, whole_world}
+use Rattle.tick_law.specs.NextTime.{next_at}
 use Rattle.tick_law.specs.Course.{Course, flag, faced, period, timer, ready, ticked, part_course, link_course}
 use Rattle.tick_law.specs.Verdict.{is_there, exists_to, all_done, verdict_by, part_next, link_next, goes_on, verdict_at}
-use Rattle.tick_law.specs.declared.verdict.Verdict.{Verdict}
 use Rattle.tick_law.specs.PlanView.{PlanView, part_wires, link_wires, start_of, system_of}
 use Rattle.model_laws.specs.Whole.{system}
 use Rattle.model_laws.specs.Tables.{edge_at}

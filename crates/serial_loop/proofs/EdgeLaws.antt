@@ -1,27 +1,25 @@
 -- Between two edges of the serial loop nothing steps, and no next time lies there.
-use Rattle.std.proofs.Common.{◌≡◌, ◌≢◌, ℕ, ◌+◌, ◌-◌, ◌*◌, ◌/◌, ◌%◌, ◌<◌, ◌≤◌, List, [], ◌∷◌, length, get_or, zero, suc, sym, ◌∙◌, ap, subst, arith, refl, add-one}
-use Rattle.std.specs.Prelude.{Option, Some, None, Bool, true, false, ◌==◌, ◌&&◌, ◌||◌, slice_get, nat_lt}
+use Rattle.std.proofs.Common.{◌≡◌, ◌≢◌, ℕ, ◌+◌, ◌-◌, ◌*◌, ◌/◌, ◌%◌, ◌<◌, ◌≤◌, List, length, get_or, zero, suc, sym, ◌∙◌, ap, subst, arith, refl, add-one}
+use Rattle.std.specs.Prelude.{Option, Some, None, Bool, true, false, ◌==◌, ◌||◌, slice_get, nat_lt}
 use Rattle.std.proofs.lemmas.Bool.Decides.{nat_tests}
 use Rattle.std.proofs.Math.Nat.{div-add-mod', mul-le-mul_left}
-use Rattle.port_msg.specs.PortView.{PortView}
-use Rattle.tick_law.specs.Machine.{Machine, Outcome}
+use Rattle.tick_law.specs.Machine.{Machine}
 use Rattle.tick_law.specs.Wires.{Wires}
 use Rattle.tick_law.specs.WorldPlaces.{WorldPlaces}
-use Rattle.tick_law.specs.Pass.{Side, has_edge, step_of, everyone}
-use Rattle.tick_law.specs.Outcomes.{outcome_if, outcome_by, outcome, charge_of, steps_to, steps_of}
-use Rattle.tick_law.specs.SerialLoop.{System, world_at, mid, parts_of, links_of, edges_at, edges_below}
-use Rattle.tick_law.specs.NextTime.{edge_past, edge_from, any_from, woken, times, next_at}
-use Rattle.tick_law.specs.Course.{Course, after, flag, faced, period, due_at, due_after, timer, next_in, ready, ticked, part_course, link_course}
-use Rattle.tick_law.specs.Verdict.{part_next, link_next}
+use Rattle.tick_law.specs.Pass.{Side, has_edge, everyone}
+use Rattle.tick_law.specs.Outcomes.{outcome_by, outcome, charge_of, steps_to, steps_of}
+use Rattle.tick_law.specs.SerialLoop.{System, edges_at, edges_below}
+use Rattle.sim_base.specs.Edge.{edge_from}
+use Rattle.tick_law.specs.NextTime.{any_from, woken, times, next_at}
+use Rattle.tick_law.specs.Course.{Course, after, flag, faced, period, due_at, due_after, timer, next_in, part_course, link_course}
 use Rattle.model_laws.specs.Course.{IsCourse}
-use Rattle.model_laws.specs.Awake.{At, at_of, mod_edge}
+use Rattle.model_laws.specs.Awake.{at_of, mod_edge}
 use Rattle.model_laws.specs.Due.{at_here}
 use Rattle.model_laws.specs.Tables.{edge_at}
 use Rattle.model_laws.specs.Wired.{is_same, is_other}
 use Rattle.model_laws.specs.Gaps.{IsSetUp, part_is, link_is}
 use Rattle.model_laws.specs.Next.{edge_here}
 use Rattle.model_laws.specs.Time.{period_at_start}
-use Rattle.time_step.specs.Table.{IsTable, next_at_place}
 use Rattle.time_step.specs.Kept.{IsBoundary}
 use Rattle.time_step.specs.Jump.{NoneBelow, Reached, jump_to}
 use Rattle.time_step.specs.Gear.{Fitted}

@@ -1,6 +1,6 @@
 -- What stands in places none of which is empty.
-use Rattle.std.proofs.Common.{◌≡◌, ℕ, ◌+◌, ◌<◌, List, [], ◌∷◌, length, take, zero, suc, sym, ◌∙◌, ap, arith, refl}
-use Rattle.std.specs.Prelude.{Option, Some, None, Bool, true, false, ◌&&◌, slice_get}
+use Rattle.std.proofs.Common.{◌≡◌, ℕ, ◌<◌, List, [], ◌∷◌, length, take, zero, suc, sym, ◌∙◌, ap, arith, refl}
+use Rattle.std.specs.Prelude.{Option, Some, Bool, true, false, ◌&&◌, slice_get}
 use Rattle.tick_law.specs.Machine.{Machine}
 use Rattle.tick_law.specs.WorldPlaces.{IsFull, somes, alls}
 use Rattle.tick_law.specs.Verdict.{all_done}

@@ -1,6 +1,6 @@
 -- The first edge of several clocks.
 use Rattle.std.specs.Prelude.{◌≡◌, ℕ, ◌<◌, List, length, slice_index_or}
-use Rattle.tick_law.specs.NextTime.{edge_from}
+use Rattle.sim_base.specs.Edge.{edge_from}
 
 -- t is the first edge from a time on of one of the clocks of these periods
 abbrev pub IsFirstEdge : List ℕ → ℕ → ℕ → Type 0

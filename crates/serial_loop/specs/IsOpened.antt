@@ -1,5 +1,5 @@
 -- What is true of a run at its beginning.
-use Rattle.std.specs.Prelude.{◌≡◌, ℕ, ◌≤◌, length}
+use Rattle.std.specs.Prelude.{◌≡◌, ◌≤◌, length}
 use Rattle.tick_law.specs.Machine.{Machine}
 use Rattle.tick_law.specs.PlanView.{PlanView, start_of}
 use Rattle.tick_law.specs.SerialLoop.{whole_world}

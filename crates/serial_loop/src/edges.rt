@@ -1,8 +1,8 @@
 ghost use Rattle.std.specs.Prelude.{◌≡◌, ℕ, ◌<◌, ◌≤◌, ◌⊎◌, length, slice_index_or};
-ghost use Rattle.tick_law.specs.NextTime.{edge_from};
+ghost use Rattle.sim_base.specs.Edge.{edge_from};
 ghost use Rattle.serial_loop.specs.FirstEdge.{IsFirstEdge};
 
-use time_step::wake::edge;
+use sim_base::{Time, first_edge_from};
 
 fn lesser(a: u64, b: u64) -> u64
     ensures first { result ≤ a }
@@ -25,7 +25,7 @@ fn least_edge(periods: &[u64], at: u64, bound: u64) -> u64
 {
     let mut low = bound;
     for no in 0..periods.len() {
-        low = lesser(edge(periods[no], at), low);
+        low = lesser(first_edge_from(Time(at), periods[no]).0, low);
     }
     low
 }

@@ -1,5 +1,5 @@
 ghost use Rattle.std.specs.Prelude.{◌≡◌, ◌+◌, IfOk, OnOk};
-ghost use Rattle.tick_law.specs.SerialLoop.{world_at, whole_world, edges_below, end_below};
+ghost use Rattle.tick_law.specs.SerialLoop.{world_at, whole_world, edges_below};
 ghost use Rattle.tick_law.specs.PlanView.{system_of};
 ghost use Rattle.tick_law.specs.Verdict.{verdict_at, end_at};
 ghost use Rattle.serial_loop.specs.IsOpened.{IsOpened};

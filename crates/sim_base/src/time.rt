@@ -34,7 +34,7 @@ pub fn first_edge_from(t: Time, period: u64) -> Time
     ensures edge { IsEdge period result.0 }
     ensures from { t.0 ≤ result.0 }
     ensures least { (e : ℕ) → IsEdge period e → t.0 ≤ e → result.0 ≤ e }
-    ensures value { result.0 ≡ edge_from t.0 period }
+    ensures value { result.0 ≡ edge_from period t.0 }
 {
     if t.0 % period == 0 {
         t

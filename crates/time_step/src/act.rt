@@ -1,12 +1,10 @@
 //! One actor's step, and a pass of them.
-ghost use Rattle.std.specs.Prelude.{◌≡◌, ℕ, ◌+◌, ◌*◌, ◌/◌, ◌%◌, ◌==◌, ◌^◌, ◌<◌, ◌≤◌, List, [], ◌∷◌, ◌++◌, length, Some, None, IsTrue, slice_get, slice_set};
-ghost use Rattle.port_msg.specs.PortView.{PortView};
-ghost use Rattle.port_msg.specs.RecView.{RecView, records_at};
-ghost use Rattle.model_laws.specs.Places.{InHand};
-ghost use Rattle.tick_law.specs.WorldPlaces.{SidePlaces, IsFull, somes, emptied, alls};
-ghost use Rattle.tick_law.specs.Pass.{gather, pass, everyone};
-ghost use Rattle.model_laws.specs.Pass.{scatter, act_at, side_places, whole_side, side_of};
-ghost use Rattle.tick_law.specs.Wires.{own_of, owner_of, Has, AllApart, Wired};
+ghost use Rattle.std.specs.Prelude.{◌≡◌, ℕ, ◌+◌, ◌*◌, ◌/◌, ◌%◌, ◌==◌, ◌<◌, ◌≤◌, [], ◌++◌, length, Some, None, IsTrue, slice_get};
+ghost use Rattle.port_msg.specs.RecView.{records_at};
+ghost use Rattle.tick_law.specs.WorldPlaces.{IsFull, somes, emptied, alls};
+ghost use Rattle.tick_law.specs.Pass.{gather};
+ghost use Rattle.model_laws.specs.Pass.{scatter, act_at, side_places};
+ghost use Rattle.tick_law.specs.Wires.{Has, AllApart};
 ghost use Rattle.tick_law.specs.Outcomes.{whats_of, flag_of, charge_of};
 ghost use Rattle.model_laws.specs.Outcome.{outcome_at};
 
@@ -14,7 +12,7 @@ use crate::scratch::Scratch;
 use port_msg::{Port, RecList};
 use sim_base::Steps;
 use std::sync::ledger::Ledger;
-use tick_law::{Actor, Places, Wiring};
+use tick_law::{Actor, Places};
 
 /// Takes these ports out of their whole_world, in order.
 fn gather_ports(ports: &mut Places<Port>, own: &[u32], hand: &mut Scratch)

@@ -1,16 +1,12 @@
 //! A pass over those whose next time is now.
-ghost use Rattle.std.specs.Prelude.{◌≡◌, ℕ, ◌+◌, ◌*◌, ◌/◌, ◌%◌, ◌==◌, ◌^◌, ◌<◌, ◌≤◌, ◌||◌, List, [], ◌∷◌, ◌++◌, length, Some, None, Bool, false, slice_get, slice_set, slice_index_or};
-ghost use Rattle.port_msg.specs.PortView.{PortView};
-ghost use Rattle.port_msg.specs.RecView.{RecView};
-ghost use Rattle.model_laws.specs.Places.{InHand};
-ghost use Rattle.tick_law.specs.WorldPlaces.{SidePlaces, IsFull};
+ghost use Rattle.std.specs.Prelude.{◌≡◌, ◌+◌, ◌*◌, ◌/◌, ◌%◌, ◌==◌, ◌^◌, ◌<◌, ◌≤◌, ◌||◌, [], ◌++◌, length, Some, None, false, slice_get, slice_set};
+ghost use Rattle.tick_law.specs.WorldPlaces.{IsFull};
 ghost use Rattle.model_laws.specs.Pass.{side_places, whole_side, side_of};
 ghost use Rattle.tick_law.specs.Pass.{pass};
 ghost use Rattle.model_laws.specs.Sleeping.{IsSound};
 ghost use Rattle.model_laws.specs.Whole.{HasRoom};
 ghost use Rattle.model_laws.specs.Outcome.{own_to};
 ghost use Rattle.tick_law.specs.Outcomes.{outcome, records, stirs, steps_of};
-ghost use Rattle.tick_law.specs.NextTime.{due_is, times};
 ghost use Rattle.model_laws.specs.Due.{next_after};
 ghost use Rattle.time_step.specs.Table.{IsTable, chosen, due_in, next_at_place, next_by, next_seat};
 

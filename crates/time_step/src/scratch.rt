@@ -1,7 +1,6 @@
 //! The ports that an actor has in hand while it steps.
-ghost use Rattle.std.specs.Prelude.{◌≡◌, ℕ, ◌+◌, ◌*◌, ◌^◌, ◌<◌, ◌≤◌, List, [], ◌∷◌, ◌++◌, ◌↔◌, length, OnOk, IfOk, IfSome, IfNone, IsSome, vec_len, vec_capacity};
-ghost use Rattle.port_msg.specs.PortView.{PortView};
-ghost use Rattle.port_msg.specs.RecView.{RecView, records_at};
+ghost use Rattle.std.specs.Prelude.{◌≡◌, ◌+◌, ◌*◌, ◌<◌, ◌≤◌, [], ◌∷◌, ◌++◌, ◌↔◌, length, IfOk, IfSome, IfNone, IsSome, vec_capacity};
+ghost use Rattle.port_msg.specs.RecView.{records_at};
 ghost use Rattle.model_laws.specs.Places.{InHand};
 
 use port_msg::{Port, RecList};
@@ -18,7 +17,7 @@ pub struct Scratch {
 }
 
 impl Model for Scratch {
-    ghost use Rattle.std.specs.Prelude.{◌≤◌, vec_len, vec_capacity};
+    ghost use Rattle.std.specs.Prelude.{◌≤◌, vec_capacity};
     ghost use Rattle.model_laws.specs.Places.{InHand};
 
     ghost Value = { InHand };

@@ -1,17 +1,12 @@
 //! A pass and those whom it wakes.
-ghost use Rattle.std.specs.Prelude.{◌≡◌, ℕ, ◌+◌, ◌*◌, ◌/◌, ◌%◌, ◌==◌, ◌^◌, ◌<◌, ◌≤◌, ◌||◌, List, [], ◌∷◌, ◌++◌, length, Some, None, Bool, false, slice_get, slice_set, slice_index_or};
-ghost use Rattle.port_msg.specs.PortView.{PortView};
-ghost use Rattle.port_msg.specs.RecView.{RecView};
-ghost use Rattle.model_laws.specs.Places.{InHand};
-ghost use Rattle.tick_law.specs.WorldPlaces.{SidePlaces, IsFull, somes};
-ghost use Rattle.tick_law.specs.Wires.{own_of, owner_of};
+ghost use Rattle.std.specs.Prelude.{◌≡◌, ◌+◌, ◌<◌, ◌≤◌, [], ◌++◌, length, slice_index_or};
+ghost use Rattle.tick_law.specs.WorldPlaces.{somes};
+ghost use Rattle.tick_law.specs.Wires.{own_of};
 ghost use Rattle.tick_law.specs.Pass.{port_at, pass};
 ghost use Rattle.model_laws.specs.Pass.{side_places, whole_side, side_of};
-ghost use Rattle.model_laws.specs.Sleeping.{IsSound};
-ghost use Rattle.model_laws.specs.Whole.{HasRoom};
-ghost use Rattle.model_laws.specs.Outcome.{own_to};
 ghost use Rattle.tick_law.specs.Outcomes.{outcome, records, stirs, steps_of};
-ghost use Rattle.tick_law.specs.NextTime.{edge_from, woken};
+ghost use Rattle.sim_base.specs.Edge.{edge_from};
+ghost use Rattle.tick_law.specs.NextTime.{woken};
 ghost use Rattle.tick_law.specs.Course.{any_of};
 ghost use Rattle.tick_law.specs.Face.{face_differs};
 ghost use Rattle.model_laws.specs.Due.{next_after};

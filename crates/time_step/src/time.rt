@@ -1,10 +1,6 @@
 //! One time of the engine.
-ghost use Rattle.std.specs.Prelude.{◌≡◌, ℕ, ◌+◌, ◌*◌, ◌^◌, ◌<◌, ◌≤◌, ◌||◌, List, [], ◌++◌, length};
-ghost use Rattle.port_msg.specs.PortView.{PortView};
-ghost use Rattle.port_msg.specs.RecView.{RecView};
-ghost use Rattle.model_laws.specs.Places.{InHand};
-ghost use Rattle.tick_law.specs.WorldPlaces.{WorldPlaces};
-ghost use Rattle.tick_law.specs.SerialLoop.{WorldState, System, records_at_time, stirs_at};
+ghost use Rattle.std.specs.Prelude.{◌≡◌, ◌+◌, ◌*◌, ◌<◌, ◌≤◌, [], ◌++◌, length};
+ghost use Rattle.tick_law.specs.SerialLoop.{records_at_time, stirs_at};
 ghost use Rattle.model_laws.specs.Whole.{system};
 ghost use Rattle.model_laws.specs.Outcome.{own_to};
 ghost use Rattle.time_step.specs.Table.{steps_now};

@@ -1,16 +1,16 @@
 //! Actors are woken by faces that changed.
-ghost use Rattle.std.specs.Prelude.{◌≡◌, ℕ, ◌+◌, ◌-◌, ◌*◌, ◌/◌, ◌%◌, ◌==◌, ◌^◌, ◌<◌, ◌≤◌, ◌||◌, List, length, Some, None, Bool, true, false, slice_get, slice_set, slice_index_or};
-ghost use Rattle.port_msg.specs.PortView.{PortView};
+ghost use Rattle.std.specs.Prelude.{◌≡◌, ℕ, ◌-◌, ◌^◌, ◌<◌, ◌≤◌, ◌||◌, length, Some, None, true, false, slice_index_or};
 ghost use Rattle.tick_law.specs.WorldPlaces.{IsFull, somes};
 ghost use Rattle.tick_law.specs.Wires.{own_of, owner_of, Wired};
 ghost use Rattle.tick_law.specs.Pass.{port_at};
-ghost use Rattle.tick_law.specs.NextTime.{edge_from, woken};
+ghost use Rattle.sim_base.specs.Edge.{edge_from};
+ghost use Rattle.tick_law.specs.NextTime.{woken};
 ghost use Rattle.tick_law.specs.Course.{any_of};
-ghost use Rattle.tick_law.specs.Face.{differ};
 ghost use Rattle.time_step.specs.Face.{differs, face_at, face_of};
 ghost use Rattle.time_step.specs.Table.{IsTable, next_at_place};
 
 use port_msg::Port;
+use sim_base::{Time, first_edge_from};
 use tick_law::{Places, Wiring};
 
 /// What is seen of a port from one side: whether there is a head, and whether there is room.
@@ -49,16 +49,6 @@ fn other_face(a: Face, b: Face) -> bool
     ensures { result ≡ differs a b }
 {
     a.head != b.head || a.room != b.room
-}
-
-/// The least multiple of `period` that is not below `t`.
-pub fn edge(period: u64, t: u64) -> u64
-    requires period { (0 < period) × (period ≤ 1000000000) }
-    requires time { t ≤ 501000000000 }
-    ensures { result ≡ edge_from period t }
-{
-    let past = t % period;
-    if past == 0 { t } else { t + (period - past) }
 }
 
 fn face_in(ports: &Places<Port>, port: u32, part: bool) -> Face
@@ -112,7 +102,7 @@ pub fn wake_changed(
     for port in 0..(ports.len() as u32) {
         if other_face(faces[port as usize], face_in(ports, port, part)) {
             let no = wiring.owner(port) as usize;
-            next[no] = Some(edge(periods[no], from));
+            next[no] = Some(first_edge_from(Time(from), periods[no]).0);
         }
     }
 }

@@ -1,6 +1,6 @@
 -- Where words are refused.
 use Rattle.std.proofs.Common.{◌≡◌, ℕ, zero, suc, ◌<◌, ◌≤◌, List, [], ◌∷◌, length, take, codes, get_or, refl, sym, ap, ◌∙◌, subst, arith}
-use Rattle.std.specs.Prelude.{Option, Some, None, slice_get}
+use Rattle.std.specs.Prelude.{Some, None, slice_get}
 use Rattle.std.specs.Fmt.{decimal}
 use Rattle.top_run.specs.declared.command.Ring.{Ring}
 use Rattle.std.specs.Prelude.{String}

@@ -1,5 +1,5 @@
 -- What the report of a ring needs of its world.
-use Rattle.std.proofs.Common.{◌≡◌, ℕ, zero, suc, ◌+◌, List, [], ◌∷◌, length, map, refl, sym, ◌∙◌, ap, codes}
+use Rattle.std.proofs.Common.{◌≡◌, ℕ, zero, suc, List, [], ◌∷◌, length, map, refl, sym, ◌∙◌, ap, codes}
 use Rattle.tick_law.specs.SerialLoop.{System, WorldState, world_at}
 use Rattle.tick_law.specs.WorldPlaces.{alls}
 use Rattle.tick_law.specs.declared.verdict.Verdict.{Verdict}

@@ -1,6 +1,6 @@
-ghost use Rattle.std.specs.Prelude.{◌≡◌, ◌≢◌, ℕ, ◌+◌, ◌<◌, ◌≤◌, ◌⊎◌, ◌↔◌, length, List, [], is_some, true, IfOk, IfSome, OnOk};
+ghost use Rattle.std.specs.Prelude.{◌≡◌, ◌≢◌, ℕ, ◌+◌, ◌<◌, ◌⊎◌, length, is_some, true, IfOk, IfSome, OnOk};
 ghost use Rattle.sim_io.specs.Sink.{Rose, Got, GotPrefix};
-ghost use Rattle.top_run.specs.Words.{spelled, InRange, Accepts, IsAccepted, RefusedAt};
+ghost use Rattle.top_run.specs.Words.{spelled, Accepts, IsAccepted, RefusedAt};
 ghost use Rattle.top_run.specs.declared.command.Ring.{Ring};
 ghost use Rattle.top_run.specs.Top.{verdict_for, report_for, edges_for, status_of, IsVerdict, usage_line, write_line, memory_line};
 

@@ -1,4 +1,4 @@
-ghost use Rattle.std.specs.Prelude.{◌≡◌, ℕ, ◌<◌, ◌≤◌, false, is_some, OnOk, OnErr, All, ◌||◌};
+ghost use Rattle.std.specs.Prelude.{◌≡◌, ◌<◌, ◌≤◌, false, is_some, OnOk, OnErr, All};
 ghost use Rattle.sim_io.specs.Sink.{Rose, Got, GotPrefix};
 ghost use Rattle.trace_out.specs.Names.{actors_of};
 ghost use Rattle.trace_out.specs.Lines.{text_of, lines_of};

@@ -1,11 +1,9 @@
-use Rattle.std.proofs.Common.{◌≡◌, ◌+◌, ◌<◌, ◌≤◌, [], ◌∷◌, ◌++◌, length, Some, None, slice_get, sym, ◌∙◌, ap, arith, refl, length-append}
+use Rattle.std.proofs.Common.{◌≡◌, ◌+◌, ◌<◌, length, Some, None, slice_get, sym, ◌∙◌, ap, arith, length-append}
 use Rattle.tick_law.specs.Pass.{port_at}
 use Rattle.port_msg.specs.RecView.{RecView}
 use Rattle.port_msg.specs.declared.records.Record.{Record}
 use Rattle.port_msg.specs.declared.records.What.TheVariants.{Move}
-use Rattle.std.proofs.lemmas.Grind.{common_steps}
-use Rattle.port_msg.specs.RecView.{records_at}
-use Rattle.direct_link.specs.Direct.{Passed, target, taken, delivered, drain, and_before, serve}
+use Rattle.direct_link.specs.Direct.{Passed, target, taken, delivered, and_before, serve}
 use Rattle.direct_link.specs.Serving.{serve_some, drain_none, drain_stuck, drain_few, recs_ended, outgoing_after, one_fewer, length_moved, recs_pushed}
 use Rattle.direct_link.proofs.serving.serve_port.Goals as goal
 

@@ -1,9 +1,8 @@
 -- The range that the agent is opened with keeps what a range keeps.
-use Rattle.std.specs.Prelude.{◌≡◌, List, [], ◌∷◌, All, AllPairs}
-use Rattle.std.proofs.Common.{refl, lit≤, subst, sym}
+use Rattle.std.specs.Prelude.{[]}
+use Rattle.std.proofs.Common.{refl, lit≤}
 use Rattle.std.proofs.lemmas.List.Elements.{All-cons, All-nil}
 use Rattle.addr_map.specs.Range.{IsRange}
-use Rattle.addr_map.specs.declared.range.Range.{Range}
 use Rattle.part_kind.proofs.tests.open_agent.Goals as goal
 
 pub open-requires-clause-shape : goal.open-requires-clause-shape

@@ -1,4 +1,4 @@
-use Rattle.std.proofs.Common.{◌≡◌, [], ◌∷◌, map}
+use Rattle.std.proofs.Common.{◌≡◌, map}
 use Rattle.ring_plan.specs.Ring.{relay_fields, up_to}
 use Rattle.ring_plan.proofs.names.relay_fields.Given as goal
 

@@ -1,4 +1,4 @@
-use Rattle.std.proofs.Common.{◌≡◌, [], ◌∷◌, map}
+use Rattle.std.proofs.Common.{◌≡◌, map}
 use Rattle.ring_plan.specs.Ring.{relay_name, up_to}
 use Rattle.ring_plan.proofs.names.relay_names.Given as goal
 

@@ -1,4 +1,4 @@
-use Rattle.std.proofs.Common.{◌≡◌, [], ◌∷◌, map}
+use Rattle.std.proofs.Common.{◌≡◌, map}
 use Rattle.part_kind.specs.declared.part.Part.TheVariants.{Relay}
 use Rattle.ring_plan.specs.Ring.{ring_relay, up_to}
 use Rattle.ring_plan.proofs.plan.ring_parts.Given as goal

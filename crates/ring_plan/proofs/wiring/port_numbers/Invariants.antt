@@ -1,4 +1,4 @@
-use Rattle.std.proofs.Common.{◌≡◌, [], ◌∷◌, map}
+use Rattle.std.proofs.Common.{◌≡◌, map}
 use Rattle.ring_plan.specs.Ring.{port_no, up_to}
 use Rattle.ring_plan.proofs.wiring.port_numbers.Given as goal
 

@@ -1,4 +1,4 @@
-use Rattle.std.proofs.Common.{◌≡◌, [], ◌∷◌, map}
+use Rattle.std.proofs.Common.{◌≡◌, map}
 use Rattle.ring_plan.specs.Ring.{ring_port, up_to}
 use Rattle.ring_plan.proofs.wiring.ring_ports.Given as goal
 

@@ -1,10 +1,7 @@
 use Rattle.std.proofs.Common.{◌≡◌, ℕ, ◌+◌, IfOk, OnOk, ap, ◌∙◌, subst}
 use Rattle.tick_law.specs.SerialLoop.{System, WorldState, world_at, whole_world, edges_below}
-use Rattle.tick_law.specs.PlanView.{system_of}
 use Rattle.tick_law.specs.Verdict.{verdict_at}
 use Rattle.tick_law.specs.declared.verdict.Verdict.{Verdict}
-use Rattle.part_kind.specs.Part.{part}
-use Rattle.part_kind.specs.LinkKind.{link}
 use Rattle.part_kind.specs.declared.part.Part.{Part}
 use Rattle.part_kind.specs.declared.link_kind.LinkKind.{LinkKind}
 use Rattle.ring_rows.specs.Lone.{lone}

@@ -1,4 +1,4 @@
-use Rattle.std.proofs.Common.{◌≡◌, ℕ, ◌<◌, ◌≤◌, List, map, length, replicate, sym, ◌∙◌, ap, subst, arith, rules}
+use Rattle.std.proofs.Common.{◌≡◌, ℕ, map, length, replicate, sym, ◌∙◌, ap, subst, arith, rules}
 use Rattle.std.specs.Prelude.{Some, slice_get, true, false}
 use Rattle.port_msg.specs.RecView.{RecView}
 use Rattle.model_laws.specs.Places.{InHand}

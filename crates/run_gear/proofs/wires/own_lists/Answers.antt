@@ -1,4 +1,4 @@
-use Rattle.std.proofs.Common.{◌≡◌, ◌∙◌, ap, map}
+use Rattle.std.proofs.Common.{◌∙◌, ap, map}
 use Rattle.sim_base.specs.declared.numbers.PortNo.{PortNo}
 use Rattle.run_gear.proofs.Mapped.{mapped_more}
 use Rattle.run_gear.proofs.wires.own_lists.Goals as goal

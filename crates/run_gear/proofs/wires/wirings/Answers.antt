@@ -1,4 +1,4 @@
-use Rattle.std.proofs.Common.{◌≡◌, ℕ, List, take, drop, map, length, sym, ◌∙◌, ap, subst, rules}
+use Rattle.std.proofs.Common.{◌≡◌, take, drop, map, length, sym, ◌∙◌, ap, subst, rules}
 use Rattle.sim_base.specs.declared.numbers.PortNo.{PortNo}
 use Rattle.std.proofs.lemmas.List.{take-map, drop-map}
 use Rattle.tick_law.specs.PlanView.{part_wires, link_wires}

@@ -1,5 +1,5 @@
 use Rattle.std.proofs.Common.{◌≡◌, ℕ, ◌<◌, ◌≤◌, ◌⊎◌, get_or}
-use Rattle.tick_law.specs.NextTime.{edge_from}
+use Rattle.sim_base.specs.Edge.{edge_from}
 use Rattle.serial_loop.proofs.edges.least_edge.Given as goal
 
 abbrev pub invariant-loop-no : goal.invariant-loop-no

@@ -1,4 +1,4 @@
-use Rattle.std.proofs.Common.{◌≡◌, ◌+◌, ◌≤◌, length, ap, sym, ◌∙◌, arith, refl}
+use Rattle.std.proofs.Common.{◌+◌, ◌≤◌, ap, sym, ◌∙◌, arith, refl}
 use Rattle.port_msg.specs.RecView.{RecView}
 use Rattle.tick_law.specs.PlanView.{start_of}
 use Rattle.tick_law.specs.WorldPlaces.{WorldPlaces}

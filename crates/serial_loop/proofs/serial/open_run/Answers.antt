@@ -1,4 +1,4 @@
-use Rattle.std.proofs.Common.{◌≡◌, ℕ, ◌≤◌, length, map, sym, ◌∙◌, ap, subst, rules}
+use Rattle.std.proofs.Common.{◌≡◌, ◌≤◌, length, map, sym, ◌∙◌, ap, subst, rules}
 use Rattle.std.specs.Prelude.{[], slice_get}
 use Rattle.port_msg.specs.PortView.{port_view}
 use Rattle.tick_law.specs.PlanView.{PlanView, start_of}

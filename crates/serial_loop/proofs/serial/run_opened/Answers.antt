@@ -1,7 +1,7 @@
-use Rattle.std.proofs.Common.{◌≡◌, ◌+◌, ◌≤◌, ◌<◌, ◌^◌, length, suc, sym, ◌∙◌, ap, subst, arith, add-one}
+use Rattle.std.proofs.Common.{◌≡◌, ◌+◌, ◌≤◌, length, suc, ◌∙◌, ap, subst, arith, add-one}
 use Rattle.std.specs.Prelude.{◌||◌}
 use Rattle.tick_law.specs.PlanView.{start_of, system_of}
-use Rattle.tick_law.specs.SerialLoop.{System, world_at, whole_world, end_below, edges_below}
+use Rattle.tick_law.specs.SerialLoop.{System, end_below}
 use Rattle.tick_law.specs.WorldPlaces.{WorldPlaces, somes}
 use Rattle.tick_law.specs.Verdict.{verdict_at, verdict_by, exists_to, all_done}
 use Rattle.model_laws.specs.Whole.{system}

@@ -1,10 +1,7 @@
-use Rattle.std.proofs.Common.{◌≡◌, ◌/◌, ◌+◌, ◌<◌, [], ◌∷◌, ◌++◌, length, take, get_or, ap, subst, sym, ◌∙◌, arith, refl}
-use Rattle.std.specs.Prelude.{Option, Some, None, Bool, true, false, slice_get, slice_set}
+use Rattle.std.proofs.Common.{◌≡◌, ap, ◌∙◌, arith, refl}
+use Rattle.std.specs.Prelude.{Some, None, true, false, slice_get}
 use Rattle.std.proofs.lemmas.Bool.Decides.{nat_tests}
-use Rattle.tick_law.specs.Pass.{port_at, gather, has_edge}
-use Rattle.tick_law.specs.WorldPlaces.{somes, emptied}
-use Rattle.tick_law.specs.Wires.{Has}
-use Rattle.model_laws.specs.Places.{InHand}
+use Rattle.tick_law.specs.Pass.{has_edge}
 use Rattle.model_laws.specs.Gathering.{emptied_at, full_some, set_here, act_done, act_none}
 use Rattle.time_step.proofs.act.act.Goals.{then-t-period-eq0, else-t-period-eq0}
 use Rattle.time_step.proofs.act.act.Goals as goal

@@ -1,7 +1,7 @@
-use Rattle.std.proofs.Common.{◌≡◌, ◌+◌, ◌<◌, [], ◌∷◌, ◌++◌, length, take, get_or, ap, sym, ◌∙◌, arith, refl}
-use Rattle.std.specs.Prelude.{Option, Some, None, slice_get, slice_set}
+use Rattle.std.proofs.Common.{◌≡◌, ◌+◌, ◌<◌, length, take, get_or, ap, ◌∙◌, arith, refl}
+use Rattle.std.specs.Prelude.{Some, None, slice_get, slice_set}
 use Rattle.std.proofs.lemmas.List.{length-set}
-use Rattle.tick_law.specs.Pass.{port_at, gather}
+use Rattle.tick_law.specs.Pass.{port_at}
 use Rattle.tick_law.specs.WorldPlaces.{somes}
 use Rattle.tick_law.specs.Wires.{Has}
 use Rattle.model_laws.specs.Gathering.{apart_take, set_elsewhere, full_at, gather_more, hand_more, emptied_more, not_before}

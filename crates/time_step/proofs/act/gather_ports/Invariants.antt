@@ -1,5 +1,5 @@
-use Rattle.std.proofs.Common.{◌≡◌, ℕ, length, take, drop, get_or}
-use Rattle.std.specs.Prelude.{Some, None, slice_get}
+use Rattle.std.proofs.Common.{◌≡◌, ℕ, length, take, drop}
+use Rattle.std.specs.Prelude.{slice_get}
 use Rattle.tick_law.specs.WorldPlaces.{somes, emptied}
 use Rattle.tick_law.specs.Pass.{gather}
 use Rattle.tick_law.specs.Wires.{Has}

@@ -1,12 +1,11 @@
-use Rattle.std.proofs.Common.{◌≡◌, ◌≢◌, ◌+◌, ◌-◌, ◌<◌, [], ◌∷◌, ◌++◌, length, take, get_or, ap, subst, sym, ◌∙◌, arith, refl}
-use Rattle.std.specs.Prelude.{Option, Some, None, slice_get, slice_set}
-use Rattle.std.proofs.lemmas.List.{length-set, length-append}
-use Rattle.tick_law.specs.Pass.{port_at}
+use Rattle.std.proofs.Common.{◌≡◌, ◌≢◌, ◌+◌, ◌-◌, ◌<◌, [], ◌∷◌, ◌++◌, length, take, get_or, ap, subst, sym, ◌∙◌, arith}
+use Rattle.std.specs.Prelude.{Some, slice_get, slice_set}
+use Rattle.std.proofs.lemmas.List.{length-append}
 use Rattle.model_laws.specs.Pass.{scatter}
 use Rattle.tick_law.specs.WorldPlaces.{alls}
 use Rattle.tick_law.specs.Wires.{Has}
 use Rattle.model_laws.specs.Places.{InHand}
-use Rattle.model_laws.specs.Gathering.{apart_take, set_elsewhere, has_more, has_next, scatter_more}
+use Rattle.model_laws.specs.Gathering.{apart_take, set_elsewhere, has_more, scatter_more}
 use Rattle.time_step.proofs.act.scatter_ports.Goals as goal
 
 pub loop-port-preserved : goal.loop-port-preserved

@@ -1,4 +1,4 @@
-use Rattle.std.proofs.Common.{◌≡◌, ◌≤◌, ℕ, length, take, drop, get_or}
+use Rattle.std.proofs.Common.{◌≡◌, ◌≤◌, ℕ, length, take}
 use Rattle.std.specs.Prelude.{Some, None, slice_get}
 use Rattle.model_laws.specs.Pass.{scatter}
 use Rattle.tick_law.specs.WorldPlaces.{alls}

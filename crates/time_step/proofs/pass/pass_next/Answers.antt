@@ -1,21 +1,19 @@
-use Rattle.std.proofs.Common.{◌≡◌, ℕ, ◌+◌, ◌*◌, ◌<◌, ◌≤◌, ◌++◌, length, ap, subst, sym, ◌∙◌, arith, refl, suc, add-one, append-nil}
-use Rattle.std.specs.Prelude.{Option, Some, None, Bool, true, false, ◌==◌, ◌||◌, IsTrue, slice_get}
+use Rattle.std.proofs.Common.{◌≡◌, ◌+◌, ◌<◌, ◌++◌, length, ap, subst, sym, ◌∙◌, arith, refl, suc, add-one, append-nil}
+use Rattle.std.specs.Prelude.{true, false, ◌||◌, slice_get}
 use Rattle.port_msg.specs.RecView.{RecView, records_at}
 use Rattle.tick_law.specs.WorldPlaces.{SidePlaces, alls, somes, IsFull}
-use Rattle.tick_law.specs.Pass.{Side, pass, has_edge}
+use Rattle.tick_law.specs.Pass.{Side, pass}
 use Rattle.tick_law.specs.Wires.{own_of, Has, Wired}
-use Rattle.model_laws.specs.Pass.{side_of, side_places, whole_side, act_at}
-use Rattle.model_laws.specs.Wired.{length-map_index}
+use Rattle.model_laws.specs.Pass.{side_of, side_places, whole_side}
 use Rattle.tick_law.specs.Laws.{Lawful}
-use Rattle.model_laws.specs.Gathered.{somes-alls, alls_full, length-alls}
-use Rattle.tick_law.specs.NextTime.{due_is}
-use Rattle.time_step.specs.Table.{chosen, next_at_place}
+use Rattle.model_laws.specs.Gathered.{alls_full, length-alls}
+use Rattle.time_step.specs.Table.{chosen}
 use Rattle.time_step.proofs.Noting.{Noted, noted_more, noted_skip, chosen_same}
-use Rattle.model_laws.specs.Outcome.{firsts, outcome_at, own_to, own_to_grows, records_fit}
-use Rattle.tick_law.specs.Outcomes.{outcome, whats_of, flag_of, charge_of, records_to}
+use Rattle.model_laws.specs.Outcome.{firsts, outcome_at, own_to_grows, records_fit}
+use Rattle.tick_law.specs.Outcomes.{outcome, whats_of, flag_of, records_to}
 use Rattle.model_laws.specs.Gathering.{side_places_is}
 use Rattle.model_laws.specs.Passing.{pass_none, length_states, length_ports}
-use Rattle.model_laws.specs.Dues.{firsts_are, firsts_wait, pass_same, waiting_of, step_more, skip_more, outcome_more, outcome_none, records_more, records_skip, stirs_more, stirs_skip, steps_more, steps_skip, items_of}
+use Rattle.model_laws.specs.Dues.{firsts_are, firsts_wait, pass_same, waiting_of, step_more, skip_more, outcome_more, records_more, records_skip, stirs_more, stirs_skip, steps_more, steps_skip, items_of}
 use Rattle.time_step.proofs.pass.pass_next.Goals.{then-is_chosen, else-is_chosen}
 use Rattle.time_step.proofs.pass.pass_next.Goals as goal
 

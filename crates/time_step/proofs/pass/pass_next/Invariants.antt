@@ -1,10 +1,9 @@
-use Rattle.std.proofs.Common.{◌≡◌, ℕ, ◌+◌, ◌<◌, ◌≤◌, ◌++◌, length}
+use Rattle.std.proofs.Common.{◌≡◌, ◌+◌, ◌++◌}
 use Rattle.tick_law.specs.Pass.{pass}
 use Rattle.model_laws.specs.Pass.{side_places, whole_side, side_of}
 use Rattle.model_laws.specs.Outcome.{firsts}
-use Rattle.tick_law.specs.Outcomes.{outcome, records_to, stirs_to, steps_to}
-use Rattle.model_laws.specs.Due.{next_after}
-use Rattle.time_step.specs.Table.{chosen, next_at_place}
+use Rattle.tick_law.specs.Outcomes.{records_to, stirs_to, steps_to}
+use Rattle.time_step.specs.Table.{chosen}
 use Rattle.time_step.proofs.Noting.{Noted}
 use Rattle.time_step.proofs.pass.pass_next.Given as goal
 

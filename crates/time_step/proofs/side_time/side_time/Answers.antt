@@ -1,8 +1,8 @@
-use Rattle.std.proofs.Common.{◌≡◌, ℕ, ◌<◌, ◌≤◌, ◌^◌, length, ap, subst, sym, ◌∙◌, arith, refl}
+use Rattle.std.proofs.Common.{◌<◌, ◌^◌, length, subst, sym, ◌∙◌}
 use Rattle.std.specs.Prelude.{slice_index_or}
 use Rattle.tick_law.specs.WorldPlaces.{somes}
 use Rattle.tick_law.specs.Wires.{Wired}
-use Rattle.tick_law.specs.NextTime.{edge_from}
+use Rattle.sim_base.specs.Edge.{edge_from}
 use Rattle.time_step.specs.Table.{chosen}
 use Rattle.time_step.proofs.Halves.{ports_long, ports_full, faces_noted}
 use Rattle.time_step.proofs.side_time.side_time.Goals as goal

@@ -1,13 +1,11 @@
-use Rattle.std.proofs.Common.{◌≡◌, ℕ, ◌+◌, ◌*◌, ◌<◌, ◌≤◌, ◌++◌, length, ap, subst, sym, ◌∙◌, arith, refl, append_assoc}
-use Rattle.std.specs.Prelude.{Bool, true, false, ◌||◌}
-use Rattle.tick_law.specs.WorldPlaces.{WorldPlaces}
+use Rattle.std.proofs.Common.{length, ap, sym, ◌∙◌}
 use Rattle.model_laws.specs.Places.{InHand}
 use Rattle.model_laws.specs.Pass.{side_of}
 use Rattle.model_laws.specs.Whole.{system}
-use Rattle.tick_law.specs.Outcomes.{records, stirs, steps_of}
+use Rattle.tick_law.specs.Outcomes.{records}
 use Rattle.time_step.specs.Table.{chosen}
 use Rattle.time_step.specs.Gear.{primary_asks}
-use Rattle.time_step.specs.Both.{Gave, primary_gave, secondary_gave, to_mid, to_next, then_asks, records_both, stirs_both, steps_both}
+use Rattle.time_step.specs.Both.{primary_gave, secondary_gave, to_mid, to_next, then_asks, records_both, stirs_both, steps_both}
 use Rattle.time_step.proofs.Halves.{ports_long}
 use Rattle.tick_law.specs.PlanView.{start_of}
 use Rattle.time_step.proofs.time.step_time.Goals as goal

@@ -1,4 +1,4 @@
-use Rattle.std.proofs.Common.{◌≡◌, ◌+◌, length, codes, sym, ◌∙◌, ap, subst, refl}
+use Rattle.std.proofs.Common.{◌≡◌, ◌+◌, length, sym, ◌∙◌, ap, subst}
 use Rattle.tick_law.specs.SerialLoop.{world_at, whole_world, world_of}
 use Rattle.tick_law.specs.PlanView.{system_of}
 use Rattle.tick_law.specs.WorldPlaces.{IsWhole}
@@ -6,7 +6,7 @@ use Rattle.tick_law.specs.Verdict.{verdict_at, end_at}
 use Rattle.model_laws.specs.Runs.{world-whole, whole_is_whole}
 use Rattle.part_kind.specs.Part.{part}
 use Rattle.part_kind.specs.LinkKind.{link}
-use Rattle.ring_plan.specs.Ring.{ring_system, ring_plan}
+use Rattle.ring_plan.specs.Ring.{ring_system}
 use Rattle.top_run.proofs.Shown.{part_count, link_count, report_same}
 use Rattle.top_run.proofs.run.run_ring.Goals as goal
 

@@ -1,4 +1,3 @@
-use Rattle.std.proofs.Common.{◌≡◌, ◌<◌, ◌^◌, rules, arith}
 use Rattle.std.proofs.lemmas.Fmt.{parse-decimal}
 use Rattle.top_run.proofs.words.parsed.Goals as goal
 

@@ -1,4 +1,4 @@
-use Rattle.std.proofs.Common.{rules, ◌≡◌, ℕ, ◌<◌, ◌≤◌, codes, length, Some, None, Ok, IsTrue, IfSome, sym, subst, arith}
+use Rattle.std.proofs.Common.{rules, ◌≡◌, ◌<◌, ◌≤◌, codes, length, Some, None, Ok, IsTrue, IfSome, subst, arith}
 use Rattle.std.specs.Prelude.{slice_get}
 use Rattle.top_run.specs.Words.{spelled, RefusedAt, IsNumberAt}
 use Rattle.top_run.proofs.Refusals.{refused_first, refused_second, refused_third, refused_fourth, accepted, length-spelled}
