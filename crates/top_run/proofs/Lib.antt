@@ -1,3 +1,4 @@
 pub mod Refusals
 pub mod Shown
 pub mod Telling
+pub mod Spelling

@@ -1,10 +1,11 @@
 -- What a run of the program leaves.
-use Rattle.std.specs.Prelude.{◌≡◌, ℕ, ◌+◌, List, [], ◌∷◌, ◌++◌, map, codes, ◌⊎◌}
+use Rattle.std.specs.Prelude.{◌≡◌, ℕ, ◌+◌, List, [], ◌∷◌, ◌++◌, map, codes, Option, ◌⊎◌}
 use Rattle.std.specs.Fmt.{decimal}
 use Rattle.tick_law.specs.SerialLoop.{world_at, edges_below}
 use Rattle.tick_law.specs.Verdict.{verdict_at, end_at}
 use Rattle.tick_law.specs.declared.verdict.Verdict.{Verdict}
 use Rattle.tick_law.specs.declared.verdict.Verdict.TheVariants.{Finished, Stuck, Cut}
+use Rattle.sim_io.specs.Sink.{Rose, Got, GotPrefix}
 use Rattle.state_view.specs.Report.{report_of}
 use Rattle.ring_plan.specs.Ring.{up_to, relay_name, ring_system}
 use Rattle.top_run.specs.declared.command.Ring.{Ring}
@@ -36,6 +37,10 @@ write_line = codes "akita: write\n"
 
 abbrev pub memory_line : List ℕ
 memory_line = codes "akita: memory\n"
+
+-- the object got the line, or else its count of faults rose and it got a prefix of the line
+abbrev pub Told : List ℕ → Option (List ℕ) → Option (List ℕ) → ℕ → ℕ → Type 0
+Told line old new before after = Got old new line ⊎ (Rose before after × GotPrefix old new line)
 
 -- the status of a run that ended with a verdict
 abbrev pub IsVerdict : ℕ → Type 0

@@ -2,7 +2,7 @@ ghost use Rattle.std.specs.Prelude.{◌≡◌, ◌≢◌, ℕ, ◌+◌, ◌<◌,
 ghost use Rattle.sim_io.specs.Sink.{Rose, Got, GotPrefix};
 ghost use Rattle.top_run.specs.Words.{spelled, Accepts, IsAccepted, RefusedAt};
 ghost use Rattle.top_run.specs.declared.command.Ring.{Ring};
-ghost use Rattle.top_run.specs.Top.{verdict_for, report_for, edges_for, status_of, IsVerdict, usage_line, write_line, memory_line};
+ghost use Rattle.top_run.specs.Top.{verdict_for, report_for, edges_for, status_of, IsVerdict, Told, usage_line, write_line, memory_line};
 
 use crate::refusal::{Refusal, usage_line};
 use crate::run::run_ring;
@@ -17,15 +17,15 @@ use tick_law::Verdict;
 /// Writes a line of a refusal. A failure is told to nobody.
 fn tell<E: Sink>(err: &mut E, line: &[u8])
     requires some { 0 < length line.now }
-    ensures { GotPrefix (E.told err.old) (E.told err.new) line.now }
+    ensures { Told line.now (E.told err.old) (E.told err.new) (E.faults err.old) (E.faults err.new) }
 {
     let _ = err.write(line);
 }
 
 fn tell_usage<E: Sink>(alloc: Global, err: &mut E, word: u32) -> Status
     ensures either { (result.0 ≡ 2) ⊎ (result.0 ≡ 8) }
-    ensures usage { result.0 ≡ 2 → GotPrefix (E.told err.old) (E.told err.new) (usage_line word) }
-    ensures memory { result.0 ≡ 8 → GotPrefix (E.told err.old) (E.told err.new) memory_line }
+    ensures usage { result.0 ≡ 2 → Told (usage_line word) (E.told err.old) (E.told err.new) (E.faults err.old) (E.faults err.new) }
+    ensures memory { result.0 ≡ 8 → Told memory_line (E.told err.old) (E.told err.new) (E.faults err.old) (E.faults err.new) }
 {
     match usage_line(alloc, word) {
         Ok(line) => {
@@ -85,13 +85,14 @@ pub fn plain<F: Files, K: Sink, E: Sink, L: Ledger>(
     ensures ran { IfSome result (λ s. IsVerdict s.0 → (ring : Ring) × Accepts (spelled words.now) ring × (s.0 ≡ status_of (verdict_for ring)) × Got (K.told out.old) (K.told out.new) (report_for ring) × (steps.new ≡ steps.old + edges_for ring)) }
     ensures silent { IfSome result (λ s. IsVerdict s.0 → err.new ≡ err.old) }
 
-    ensures usage { IfSome result (λ s. s.0 ≡ 2 → (k : ℕ) × RefusedAt (spelled words.now) k × GotPrefix (E.told err.old) (E.told err.new) (usage_line k)) }
+    ensures usage { IfSome result (λ s. s.0 ≡ 2 → (k : ℕ) × RefusedAt (spelled words.now) k × Told (usage_line k) (E.told err.old) (E.told err.new) (E.faults err.old) (E.faults err.new)) }
     ensures refused { (IsAccepted (spelled words.now) → ⊥) → IfSome result (λ s. (s.0 ≡ 2) ⊎ (s.0 ≡ 8)) }
+    ensures complete { (ring : Ring) → Accepts (spelled words.now) ring → (Rose (K.faults out.old) (K.faults out.new) → ⊥) → IfSome result (λ s. (s.0 ≡ 8) ⊎ ((s.0 ≡ status_of (verdict_for ring)) × Got (K.told out.old) (K.told out.new) (report_for ring))) }
     ensures accepted { IsAccepted (spelled words.now) → IfSome result (λ s. s.0 ≢ 2) }
     ensures unwritten { IfSome result (λ s. s.0 ≡ 2 → out.new ≡ out.old) }
 
-    ensures write { IfSome result (λ s. s.0 ≡ 6 → (ring : Ring) × Accepts (spelled words.now) ring × Rose (K.faults out.old) (K.faults out.new) × GotPrefix (K.told out.old) (K.told out.new) (report_for ring) × GotPrefix (E.told err.old) (E.told err.new) write_line) }
-    ensures memory { IfSome result (λ s. s.0 ≡ 8 → (out.new ≡ out.old) × GotPrefix (E.told err.old) (E.told err.new) memory_line) }
+    ensures write { IfSome result (λ s. s.0 ≡ 6 → (ring : Ring) × Accepts (spelled words.now) ring × Rose (K.faults out.old) (K.faults out.new) × GotPrefix (K.told out.old) (K.told out.new) (report_for ring) × Told write_line (E.told err.old) (E.told err.new) (E.faults err.old) (E.faults err.new)) }
+    ensures memory { IfSome result (λ s. s.0 ≡ 8 → (out.new ≡ out.old) × Told memory_line (E.told err.old) (E.told err.new) (E.faults err.old) (E.faults err.new)) }
     ensures files { files.new ≡ files.old }
 {
     let status = match run_words(alloc, words, out, steps) {

@@ -1,6 +1,17 @@
 use Rattle.std.proofs.Common.{◌≡◌, Err, take, sym, ap}
+use Rattle.top_run.specs.Words.{spelled}
+use Rattle.top_run.proofs.Spelling.{completed}
 use Rattle.top_run.specs.declared.refusal.Refusal.TheVariants.{Usage}
 use Rattle.top_run.proofs.top.plain.Goals as goal
+
+pub returns-in-Ok-clause-complete : goal.returns-in-Ok-clause-complete
+returns-in-Ok-clause-complete g c = λ ring accepts calm. completed (spelled c.args.words.now) _ c.in-Ok.verdict _ _ ring accepts c.in-Ok.ensures.ran c.of-status.ensures
+
+pub returns-in-Err-Usage-clause-complete : goal.returns-in-Err-Usage-clause-complete
+returns-in-Err-Usage-clause-complete g c = λ ring accepts calm.
+    let is : c.run_words.result ≡ Err (Usage c.in-Err-Usage.word) = cc in
+    let refused = c.run_words.ensures.usage c.in-Err-Usage.word is in
+    absurd (refused.0.none (ring, accepts.range, ap (λ l. take c.in-Err-Usage.word l) (sym accepts.spelling)))
 
 pub returns-in-Err-Usage-clause-accepted : goal.returns-in-Err-Usage-clause-accepted
 returns-in-Err-Usage-clause-accepted g c = λ (ring, accepts) two.

@@ -1,5 +1,5 @@
-use Rattle.top_run.proofs.Telling.{told_prefix}
+use Rattle.top_run.proofs.Telling.{told_line}
 use Rattle.top_run.proofs.top.tell.Goals as goal
 
 pub returns : goal.returns
-returns g c = told_prefix c.write.result _ _ c.args.line.now c.write.ensures.ok c.write.ensures.prefix
+returns g c = told_line c.write.result _ _ _ _ c.args.line.now c.write.ensures.ok c.write.ensures.prefix c.write.ensures.fault
