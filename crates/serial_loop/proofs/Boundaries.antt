@@ -23,10 +23,10 @@ get-replicate zero i x d b = absurd (omega arith)
 get-replicate (suc n) zero x d b = refl
 get-replicate (suc n) (suc i) x d b = get-replicate n i x d (omega arith)
 
-first_ready : {S : Type 0} (c : Course S) (i : ℕ) → ready c i 0 ≡ Some 0
+pub first_ready : {S : Type 0} (c : Course S) (i : ℕ) → ready c i 0 ≡ Some 0
 first_ready c i = ap (next_at (period c i) (flag c i) (faced c i) (timer c i) 0) (edge_at 0 (period c i) (let z : 0 % period c i ≡ 0 = omega arith in z))
 
-first_ticked : {S : Type 0} (c : Course S) (i : ℕ) → ticked c i 0 ≡ Some 0
+pub first_ticked : {S : Type 0} (c : Course S) (i : ℕ) → ticked c i 0 ≡ Some 0
 first_ticked c i = ap (next_at (period c i) (flag c i) (faced c i) (timer c i) 0) (edge_at 0 (period c i) (let z : 0 % period c i ≡ 0 = omega arith in z))
 
 exists_same : (f g : ℕ → Option ℕ) (n : ℕ) → ((i : ℕ) → i < n → f i ≡ g i) → exists_to f n ≡ exists_to g n

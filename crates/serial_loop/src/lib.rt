@@ -3,10 +3,10 @@
 
 mod edges;
 mod ending;
-mod opened;
-mod run;
-mod serial;
-mod verdict;
+pub mod opened;
+pub mod run;
+pub mod serial;
+pub mod verdict;
 
 pub use ending::Ending;
 pub use serial::run_serial;

@@ -16,7 +16,8 @@ use time_step::stepping::Stepping;
 use time_step::time::step_time;
 use time_step::wake::Face;
 
-fn later(stirred: bool, t: u64, end: u64) -> u64
+/// The ending time behind a time: that time where it stirred.
+pub fn later(stirred: bool, t: u64, end: u64) -> u64
     ensures { result ≡ pick stirred t end }
 {
     if stirred { t } else { end }

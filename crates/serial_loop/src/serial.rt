@@ -15,7 +15,8 @@ use std::marker::Brand;
 use std::sync::ledger::Ledger;
 use tick_law::{Actor, Charter, Plan, World};
 
-fn open_run<P: Actor + Drop, N: Actor + Drop>(
+/// A run of a plan at its beginning.
+pub fn open_run<P: Actor + Drop, N: Actor + Drop>(
     alloc: Global,
     plan: Plan<P, N>,
 ) -> Result<Opened<P, N>, OutOfMemory>

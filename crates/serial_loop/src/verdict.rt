@@ -35,7 +35,7 @@ fn is_done_at<S: Actor + Drop>(actors: &Places<S>, no: u32) -> bool
 }
 
 /// Whether every actor is done.
-fn are_done<S: Actor + Drop>(actors: &Places<S>) -> bool
+pub fn are_done<S: Actor + Drop>(actors: &Places<S>) -> bool
     requires full { IsFull actors.now }
     requires few { length actors.now < 2 ^ 32 }
     ensures { result ≡ all_done S.machine (somes actors.now) }

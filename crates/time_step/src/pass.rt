@@ -48,7 +48,7 @@ fn is_chosen(stepping: Stepping, next: &[Option<u64>], no: u32, t: u64) -> bool
 }
 
 /// The next time that a step of this actor at `t` leaves.
-fn next_of<S: Actor>(actor: &S, t: u64, flag: bool, old: Option<u64>) -> Option<u64>
+pub fn next_of<S: Actor>(actor: &S, t: u64, flag: bool, old: Option<u64>) -> Option<u64>
     requires time { t ≤ 501000000000 }
     ensures { result ≡ next_by (t % S.machine.period actor.now == 0) S.machine t flag old actor.now }
 {

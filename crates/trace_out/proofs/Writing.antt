@@ -11,7 +11,7 @@ pub record GotFirst {A : Type 0} (f : A → List ℕ) (items : List A) (count : 
   pub got : Got old new (flat_map f (take count items))
   pub falls : before ≤ after
 
-Got-more : (old mid new : Option (List ℕ)) (a b : List ℕ) → Got old mid a → Got mid new b → Got old new (a ++ b)
+pub Got-more : (old mid new : Option (List ℕ)) (a b : List ℕ) → Got old mid a → Got mid new b → Got old new (a ++ b)
 Got-more None mid new a b p q = q ∙ ap (λ held. option_map (λ bytes. bytes ++ b) held) p
 Got-more (Some xs) mid new a b p q =
     q ∙ ap (λ held. option_map (λ bytes. bytes ++ b) held) p ∙ ap (λ bytes. Some bytes) (append_assoc xs a b)

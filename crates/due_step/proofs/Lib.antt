@@ -1,0 +1,4 @@
+pub mod HalfLaws
+pub mod ChangeLaws
+pub mod NoteLaws
+pub mod TurnLaws
