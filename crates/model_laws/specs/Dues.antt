@@ -40,7 +40,7 @@ or_none true = refl
 or_none false = refl
 
 module _ {S : Type 0} where
-  who_ports : (m : Machine S) (w : Wires) (a b : ℕ → Bool) (t : ℕ) (ports : List PortView) (q : ℕ) (p : PortView) (o : Option S) → a (owner_of w q) ≡ b (owner_of w q) → port_from m w a t ports q p o ≡ port_from m w b t ports q p o
+  pub who_ports : (m : Machine S) (w : Wires) (a b : ℕ → Bool) (t : ℕ) (ports : List PortView) (q : ℕ) (p : PortView) (o : Option S) → a (owner_of w q) ≡ b (owner_of w q) → port_from m w a t ports q p o ≡ port_from m w b t ports q p o
   who_ports m w a b t ports q p None e = refl
   who_ports m w a b t ports q p (Some s) e = rw e refl
 
