@@ -1,0 +1,2 @@
+pub mod SleepGear
+pub mod PlanNames
