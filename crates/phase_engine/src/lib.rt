@@ -1,9 +1,11 @@
 //! The sleeping engine of one thread: it goes from one time at which somebody is due to the next.
 #![tactic(auto)]
 
+mod advance;
 mod first_times;
 mod names;
 mod next_due;
 mod one_time;
+mod run;
 mod sleep_gear;
 mod verdict;

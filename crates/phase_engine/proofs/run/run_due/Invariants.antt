@@ -1,0 +1,29 @@
+use Rattle.std.proofs.Common.{◌≡◌, ◌+◌, ◌-◌, ◌≤◌}
+use Rattle.std.specs.Prelude.{is_some}
+use Rattle.sim_io.specs.Sink.{Got}
+use Rattle.tick_law.specs.SerialLoop.{records_below, end_below}
+use Rattle.tick_law.specs.PlanView.{system_of}
+use Rattle.tick_law.specs.Verdict.{awake_below}
+use Rattle.trace_out.specs.Lines.{lines_of}
+use Rattle.phase_engine.specs.SleepGear.{IsSleepGear, IsAt}
+use Rattle.phase_engine.proofs.run.run_due.Given as goal
+
+abbrev pub invariant-loop-t : goal.invariant-loop-t
+invariant-loop-t g l =
+    let mp = g.P.Actor.machine in
+    let mn = g.N.Actor.machine in
+    let plan = g.C.Charter.plan in
+    let r = system_of mp mn plan in
+    record {
+      gear : IsSleepGear mp mn g.P.Actor.valid g.N.Actor.valid plan l.gear;
+      at : IsAt mp mn plan l.t l.world l.gear.next;
+      within : l.t ≤ l.until + 1;
+      end : l.end ≡ end_below r l.t;
+      steps : l.steps ≡ l.fn.steps + awake_below r l.t;
+      lines : Got (g.K.Sink.told l.fn.sink) (g.K.Sink.told l.sink) (lines_of l.names l.all (records_below r l.t));
+      falls : g.K.Sink.faults l.fn.sink ≤ g.K.Sink.faults l.sink;
+      telling : is_some (g.K.Sink.told l.sink) ≡ is_some (g.K.Sink.told l.fn.sink);
+    }
+
+abbrev pub decreases-loop-t : goal.decreases-loop-t
+decreases-loop-t g l = l.until + 1 - l.t
