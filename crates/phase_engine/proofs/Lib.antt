@@ -1,3 +1,4 @@
+pub mod OpenLaws
 pub mod PlanLaws
 pub mod RunLaws
 pub mod TimesLaws

@@ -10,7 +10,7 @@ use Rattle.event_queue.specs.NextTimes.{time_of, earlier}
 use Rattle.tick_law.specs.Verdict.{is_there, exists_to}
 use Rattle.time_step.specs.Table.{next_at_place}
 use Rattle.due_step.specs.Half.{half_of, number_of}
-use Rattle.due_step.proofs.HalfLaws.{half_at}
+use Rattle.due_step.proofs.HalfLaws.{half_at, length-half}
 
 pub none_set : (n i : ℕ) → time_of (replicate n None) i ≡ None
 none_set n i = elim (cases_lt i n) [
@@ -88,3 +88,18 @@ either_some base links i t times long e = elim (cases_lt i (length times)) [
         ∙ or_true (exists_to (next_at_place (half_of 0 base times)) base))
   ])
 ]
+
+-- both halves, counted by their own lengths
+pub verdict_halves : (base n links m : ℕ) (times : List (Option Time)) → base ≡ n → links ≡ m → (exists_to (next_at_place (half_of 0 base times)) base || exists_to (next_at_place (half_of base links times)) links) ≡ (exists_to (next_at_place (half_of 0 n times)) (length (half_of 0 n times)) || exists_to (next_at_place (half_of n m times)) (length (half_of n m times)))
+verdict_halves base n links m times e f =
+    ap (λ x. exists_to (next_at_place (half_of 0 x times)) x || exists_to (next_at_place (half_of x links times)) links) e
+    ∙ ap (λ x. exists_to (next_at_place (half_of 0 n times)) n || exists_to (next_at_place (half_of n x times)) x) f
+    ∙ ap (λ x. exists_to (next_at_place (half_of 0 n times)) x || exists_to (next_at_place (half_of n m times)) m) (sym (length-half 0 n times))
+    ∙ ap (λ x. exists_to (next_at_place (half_of 0 n times)) (length (half_of 0 n times)) || exists_to (next_at_place (half_of n m times)) x) (sym (length-half n m times))
+
+-- at the beginning
+pub half_first : (first n m : ℕ) (times : List (Option Time)) → first + n ≤ m → times ≡ replicate m (Some (record { 0 = 0 })) → half_of first n times ≡ replicate n (Some 0)
+half_first first zero m times b e = refl
+half_first first (suc n) m times b e =
+    let here : number_of (time_of times first) ≡ Some 0 = ap number_of (ap (λ l. time_of l first) e ∙ get_or-replicate m first (Some (record { 0 = 0 })) None (omega arith)) in
+    ap (λ x. x ∷ half_of (suc first) n times) here ∙ ap (λ l. Some 0 ∷ l) (half_first (suc first) n m times (omega arith) e)

@@ -1,2 +1,3 @@
-pub mod SleepGear
 pub mod PlanNames
+pub mod SleepGear
+pub mod Engine

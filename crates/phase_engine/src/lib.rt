@@ -2,6 +2,8 @@
 #![tactic(auto)]
 
 mod advance;
+mod drive;
+mod engine;
 mod first_times;
 mod names;
 mod next_due;
@@ -9,3 +11,5 @@ mod one_time;
 mod run;
 mod sleep_gear;
 mod verdict;
+
+pub use engine::{Engine, TraceFault};

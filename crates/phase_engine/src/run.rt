@@ -19,6 +19,7 @@ use trace_out::{Names, write_records};
 
 /// How far a run came: all times below `upto` are done, `end` is the last of them at which an actor made progress, or 0, and
 /// `failed` says whether the run stopped there since a write failed.
+#[derive(Clone, Copy, Drop)]
 pub struct Reached {
     pub upto: u64,
     pub end: u64,

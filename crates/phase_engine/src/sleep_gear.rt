@@ -1,14 +1,15 @@
 ghost use Rattle.std.specs.Prelude.{IfOk};
+ghost use Rattle.run_gear.specs.IsGear.{IsGear};
 ghost use Rattle.phase_engine.specs.SleepGear.{IsSleepGear, AllFirst};
 
 use crate::first_times::first_times;
 use event_queue::NextTimes;
 use port_msg::RecList;
-use run_gear::{Gear, open_gear};
+use run_gear::Gear;
 use sim_base::{OutOfMemory, Steps};
 use std::alloc::Global;
 use std::sync::ledger::Ledger;
-use tick_law::{Actor, Plan, Wiring};
+use tick_law::{Actor, Charter, Wiring};
 use time_step::scratch::Scratch;
 use time_step::wake::Face;
 
@@ -26,14 +27,15 @@ pub struct SleepGear {
     pub recs: RecList,
 }
 
-/// The gear of a run of this plan, at its beginning.
-pub fn open_sleep_gear<P: Actor + Drop, N: Actor + Drop, M: Ledger>(
+/// The gear of a run at its beginning, for the sleeping engine.
+pub fn asleep<P: Actor + Drop, N: Actor + Drop, C: Charter<P, N>, M: Ledger>(
     alloc: Global,
-    plan: &Plan<P, N>,
+    gear: Gear,
     looks: &mut Steps<M>,
 ) -> Result<SleepGear, OutOfMemory>
-    ensures gear { IfOk result (IsSleepGear P.machine N.machine P.valid N.valid plan.now) }
-    ensures times { IfOk result (AllFirst plan.now) }
+    requires { IsGear P.machine N.machine P.valid N.valid C.plan gear }
+    ensures gear { IfOk result (IsSleepGear P.machine N.machine P.valid N.valid C.plan) }
+    ensures times { IfOk result (AllFirst C.plan) }
 {
     let Gear {
         part_wires,
@@ -45,7 +47,7 @@ pub fn open_sleep_gear<P: Actor + Drop, N: Actor + Drop, M: Ledger>(
         faces,
         hand,
         recs,
-    } = open_gear(alloc, plan)?;
+    } = gear;
     let actors = part_periods.len() + link_periods.len();
     let next = first_times(alloc, actors as u32, looks)?;
     Ok(SleepGear {
