@@ -97,6 +97,7 @@ impl<P: Actor + Drop, N: Actor + Drop, C: Charter<P, N>> Engine<P, N, C> {
         ensures fault { IfErr result (λ f. Rose (K.faults sink.old) (K.faults sink.new)) }
         ensures prefix { IfErr result (λ f. GotPrefix (K.told sink.old) (K.told sink.new) (lines_of (names_of C.plan) all (records_below (system_of P.machine N.machine C.plan) f.upto.0))) }
 
+        ensures within { self.new.at ≤ C.plan.until + 1 }
         ensures world { self.new.world ≡ whole_world (world_at (system_of P.machine N.machine C.plan) self.new.at) }
         ensures times { IsAt P.machine N.machine C.plan self.new.at self.new.world self.new.next }
         ensures end { self.new.end ≡ end_below (system_of P.machine N.machine C.plan) self.new.at }
