@@ -53,6 +53,7 @@ fn run_of<P: Actor + Drop, N: Actor + Drop, C: Charter<P, N>, K: Sink, L: Ledger
     ensures fault { (f : TraceFault) → result ≡ Err (RunFault.Trace f) → (f.upto.0 ≤ C.plan.until + 1) × Rose (K.faults sink.old) (K.faults sink.new) × GotPrefix (K.told sink.old) (K.told sink.new) (lines_of (names_of C.plan) all (records_below (system_of P.machine N.machine C.plan) f.upto.0)) }
     ensures fault_steps { (f : TraceFault) → result ≡ Err (RunFault.Trace f) → steps.new ≡ steps.old + awake_below (system_of P.machine N.machine C.plan) f.upto.0 }
     ensures memory { result ≡ Err RunFault.OutOfMemory → (sink.new ≡ sink.old) × (steps.new ≡ steps.old) }
+    ensures never_falls { K.faults sink.old ≤ K.faults sink.new }
 {
     let mut engine = Engine::<P, N, C>::open(alloc, plan)?;
     match engine.run(sink, all, steps) {
@@ -88,6 +89,7 @@ pub fn run_plan<P: Actor + Drop, N: Actor + Drop, K: Sink, L: Ledger>(
     ensures fault { (f : TraceFault) → result ≡ Err (RunFault.Trace f) → (f.upto.0 ≤ plan.until + 1) × Rose (K.faults sink.old) (K.faults sink.new) × GotPrefix (K.told sink.old) (K.told sink.new) (lines_of (names_of plan) all (records_below (system_of P.machine N.machine plan) f.upto.0)) }
     ensures fault_steps { (f : TraceFault) → result ≡ Err (RunFault.Trace f) → steps.new ≡ steps.old + awake_below (system_of P.machine N.machine plan) f.upto.0 }
     ensures memory { result ≡ Err RunFault.OutOfMemory → (sink.new ≡ sink.old) × (steps.new ≡ steps.old) }
+    ensures never_falls { K.faults sink.old ≤ K.faults sink.new }
 {
     run_of::<P, N, Brand, K, L>(alloc, plan, sink, all, steps)
 }

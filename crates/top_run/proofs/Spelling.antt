@@ -5,7 +5,7 @@ use Rattle.std.specs.Fmt.{decimal}
 use Rattle.std.proofs.lemmas.Fmt.{decimal_injective}
 use Rattle.top_run.specs.declared.command.Ring.{Ring}
 use Rattle.top_run.specs.Words.{words_of, InRange, Accepts}
-use Rattle.top_run.specs.Top.{verdict_for, report_for, status_of}
+use Rattle.top_run.specs.Top.{verdict_for, written_for, status_of}
 use Rattle.tick_law.specs.declared.verdict.Verdict.{Verdict}
 use Rattle.sim_io.specs.Sink.{Got}
 use Rattle.top_run.proofs.Refusals.{command_of}
@@ -24,6 +24,6 @@ spelled_same r q a b e =
 accepted_same : (words : List (List ℕ)) (r q : Ring) → Accepts words r → Accepts words q → r ≡ q
 accepted_same words r q a b = spelled_same r q a.range b.range (sym a.spelling ∙ b.spelling)
 
-pub completed : {X : Ring → Type 0} (words : List (List ℕ)) (status : ℕ) (verdict : Verdict) (old new : Option (List ℕ)) (ring : Ring) → Accepts words ring → (q : Ring) × Accepts words q × (verdict ≡ verdict_for q) × Got old new (report_for q) × X q → status ≡ status_of verdict → (status ≡ 8) ⊎ ((status ≡ status_of (verdict_for ring)) × Got old new (report_for ring))
+pub completed : {X : Ring → Type 0} (words : List (List ℕ)) (status : ℕ) (verdict : Verdict) (old new : Option (List ℕ)) (ring : Ring) → Accepts words ring → (q : Ring) × Accepts words q × (verdict ≡ verdict_for q) × Got old new (written_for q) × X q → status ≡ status_of verdict → (status ≡ 8) ⊎ ((status ≡ status_of (verdict_for ring)) × Got old new (written_for ring))
 completed words status verdict old new ring a (q, taken, same, got, rest) e =
-    subst (λ r. (status ≡ 8) ⊎ ((status ≡ status_of (verdict_for r)) × Got old new (report_for r))) (accepted_same words q ring taken a) (inr (e ∙ ap status_of same, got))
+    subst (λ r. (status ≡ 8) ⊎ ((status ≡ status_of (verdict_for r)) × Got old new (written_for r))) (accepted_same words q ring taken a) (inr (e ∙ ap status_of same, got))

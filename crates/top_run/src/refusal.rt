@@ -1,7 +1,7 @@
 ghost use Rattle.std.specs.Prelude.{◌≡◌, IfOk, string_bytes};
-ghost use Rattle.top_run.specs.Top.{usage_line};
+ghost use Rattle.top_run.specs.Top.{usage_line, write_at_line};
 
-use sim_base::OutOfMemory;
+use sim_base::{OutOfMemory, Time};
 use std::alloc::{AllocError, Global};
 
 /// Why a run of the program ends without a verdict.
@@ -11,6 +11,8 @@ pub enum Refusal {
     Usage(u32),
     /// A write of the report failed.
     Write,
+    /// A write of a line at the end of a time failed; the boundary behind that time.
+    WriteAt(Time),
     OutOfMemory,
 }
 
@@ -30,4 +32,12 @@ pub fn usage_line(alloc: Global, word: u32) -> Result<String, AllocError>
     ensures { IfOk result (λ line. string_bytes line ≡ usage_line word) }
 {
     format!(in alloc; "akita: usage: word {word}\n")
+}
+
+/// The line of a line of the run that was not written.
+pub fn write_at_line(alloc: Global, upto: Time) -> Result<String, AllocError>
+    ensures { IfOk result (λ line. string_bytes line ≡ write_at_line upto.0) }
+{
+    let boundary = upto.0;
+    format!(in alloc; "akita: write at {boundary}\n")
 }

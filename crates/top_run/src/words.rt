@@ -1,5 +1,6 @@
 ghost use Rattle.std.specs.Prelude.{◌≡◌, ◌≢◌, ℕ, ◌≤◌, ◌<◌, ◌^◌, Some, slice_get, IsTrue, ◌↔◌, IfOk, IfSome};
 ghost use Rattle.std.specs.Fmt.{decimal};
+ghost use Rattle.sim_base.specs.declared.time.Time.{Time};
 ghost use Rattle.top_run.specs.Words.{spelled, Accepts, RefusedAt, IsNumberAt};
 
 use crate::command::Ring;
@@ -77,6 +78,7 @@ pub fn read_ring(alloc: Global, words: &[String]) -> Result<Ring, Refusal>
     ensures accepted { IfOk result (λ ring. Accepts (spelled words.now) ring) }
     ensures refused { (k : ℕ) → result ≡ Err (Refusal.Usage k) → RefusedAt (spelled words.now) k }
     ensures not_write { result ≢ Err Refusal.Write }
+    ensures not_write_at { (d : Time) → result ≢ Err (Refusal.WriteAt d) }
 {
     if !is_word(words, 0, b"ring") {
         return Err(Refusal::Usage(1));

@@ -1,7 +1,8 @@
-use Rattle.std.proofs.Common.{◌≡◌, Err, take, sym, ap}
+use Rattle.std.proofs.Common.{◌≡◌, ◌+◌, Err, take, inl, inr, sym, ap}
 use Rattle.top_run.specs.Words.{spelled}
 use Rattle.top_run.proofs.Spelling.{completed}
-use Rattle.top_run.specs.declared.refusal.Refusal.TheVariants.{Usage}
+use Rattle.top_run.proofs.Telling.{all_lines}
+use Rattle.top_run.specs.declared.refusal.Refusal.TheVariants.{Usage, OutOfMemory}
 use Rattle.top_run.proofs.top.plain.Goals as goal
 
 pub returns-in-Ok-clause-complete : goal.returns-in-Ok-clause-complete
@@ -25,8 +26,16 @@ returns-in-Err-Usage-clause-unwritten g c = λ two.
     let refused = c.run_words.ensures.usage c.in-Err-Usage.word is in
     refused.1
 
-pub returns-in-Err-Usage-clause-memory : goal.returns-in-Err-Usage-clause-memory
-returns-in-Err-Usage-clause-memory g c = λ eight.
+pub returns-in-Err-Usage-clause-unreported : goal.returns-in-Err-Usage-clause-unreported
+returns-in-Err-Usage-clause-unreported g c = λ eight.
     let is : c.run_words.result ≡ Err (Usage c.in-Err-Usage.word) = cc in
     let refused = c.run_words.ensures.usage c.in-Err-Usage.word is in
-    (refused.1, c.tell_usage-status.ensures.memory eight)
+    inl refused.1
+
+pub returns-in-Err-OutOfMemory-clause-unreported : goal.returns-in-Err-OutOfMemory-clause-unreported
+returns-in-Err-OutOfMemory-clause-unreported g c = λ eight.
+    let is : c.run_words.result ≡ Err OutOfMemory = cc in
+    elim (c.run_words.ensures.memory is) [
+      | inl same ↦ inl same
+      | inr (ring, accepts, lines) ↦ inr (ring, accepts, (ring.until.0 + 1, all_lines ring (g.K.Sink.told c.args.out.now) (g.K.Sink.told c.run_words.new.out) lines))
+    ]
