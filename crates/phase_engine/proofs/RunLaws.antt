@@ -1,5 +1,5 @@
 -- A run goes on from one time at which somebody is due to the next.
-use Rattle.std.proofs.Common.{◌≡◌, ℕ, ◌+◌, ◌<◌, ◌≤◌, List, [], ◌++◌, length, take, drop, zero, suc, sym, ◌∙◌, ap, subst, arith, refl, add-one}
+use Rattle.std.proofs.Common.{◌≡◌, ℕ, ◌+◌, ◌-◌, ◌<◌, ◌≤◌, List, [], ◌∷◌, ◌++◌, length, take, drop, zero, suc, sym, ◌∙◌, ap, subst, arith, refl, add-one}
 use Rattle.std.specs.Prelude.{Option, Some, None, Bool, All, option_map}
 use Rattle.std.proofs.Math.Seq.{take-append_seam}
 use Rattle.std.proofs.lemmas.List.{take-append-drop, append_assoc, append-nil}
@@ -25,6 +25,14 @@ use Rattle.due_step.proofs.HalfLaws.{half_at, length-half}
 use Rattle.trace_out.specs.Names.{NamesView}
 use Rattle.trace_out.specs.Lines.{text_of, lines_of}
 use Rattle.trace_out.proofs.Writing.{Got-more}
+use Rattle.phase_engine.specs.Between.{records_over, records_between}
+
+tail_same : {A : Type 0} (x y : A) (xs ys : List A) → x ∷ xs ≡ y ∷ ys → xs ≡ ys
+tail_same x y xs ys e = cc
+
+append-same : {A : Type 0} (a b c : List A) → a ++ b ≡ a ++ c → b ≡ c
+append-same [] b c e = e
+append-same (x ∷ xs) b c e = append-same xs b c (tail_same x x (xs ++ b) (xs ++ c) e)
 
 later_than : (o : Option Time) (e at : ℕ) → ((t : Time) → o ≡ Some t → e ≤ t.0) → number_of o ≡ Some at → e ≤ at
 later_than None e at none f = absurd (cc)
@@ -77,18 +85,50 @@ module _ {P N : Type 0} where
   to_due r vp vn d e world times first n m up l b none was =
       jump_to r vp vn d e world (half_of first n times) (half_of n m times) up l b (λ x. none_below first n e times (none x)) (λ x. none_below n m e times (none x)) was
 
-  -- the lines of one time more
-  pub lines_then : (r : System P N) (names : NamesView) (all : Bool) (t : ℕ) (old mid new : Option (List ℕ)) → Got old mid (lines_of names all (records_below r t)) → Got mid new (lines_of names all (records_at_time r t)) → Got old new (lines_of names all (records_below r (t + 1)))
-  lines_then r names all t old mid new p q =
-      subst (λ (bytes : List ℕ). Got old new bytes)
-      (sym (flat_map-append (text_of names all) (records_below r t) (records_at_time r t)) ∙ ap (λ k. lines_of names all (records_below r k)) (sym (add-one t)))
-      (Got-more old mid new (lines_of names all (records_below r t)) (lines_of names all (records_at_time r t)) p q)
+  over_at : (r : System P N) (d k : ℕ) → records_below r d ++ records_over r d k ≡ records_below r (d + k)
+  over_at r d zero = append-nil (records_below r d) ∙ ap (λ n. records_below r n) (let z : d ≡ d + 0 = omega arith in z)
+  over_at r d (suc k) =
+      sym (append_assoc (records_below r d) (records_over r d k) (records_at_time r (d + k)))
+      ∙ ap (λ l. l ++ records_at_time r (d + k)) (over_at r d k)
+      ∙ ap (λ n. records_below r n) (let z : suc (d + k) ≡ d + suc k = omega arith in z)
 
-  pub prefix_then : (r : System P N) (names : NamesView) (all : Bool) (t : ℕ) (old mid new : Option (List ℕ)) → Got old mid (lines_of names all (records_below r t)) → GotPrefix mid new (lines_of names all (records_at_time r t)) → GotPrefix old new (lines_of names all (records_below r (t + 1)))
-  prefix_then r names all t old mid new p q =
+  -- what is recorded below d and from d to e is what is recorded below e
+  records_split : (r : System P N) (d e : ℕ) → d ≤ e → records_below r d ++ records_between r d e ≡ records_below r e
+  records_split r d e l = over_at r d (e - d) ∙ ap (λ n. records_below r n) (let z : d + (e - d) ≡ e = omega (arith, l) in z)
+
+  from_start : (r : System P N) (e : ℕ) → records_between r 0 e ≡ records_below r e
+  from_start r e = records_split r 0 e (omega arith)
+
+  pub none_between : (r : System P N) (d : ℕ) → records_between r d d ≡ []
+  none_between r d = ap (records_over r d) (let z : d - d ≡ 0 = omega arith in z)
+
+  between_more : (r : System P N) (d t : ℕ) → d ≤ t → records_between r d (t + 1) ≡ records_between r d t ++ records_at_time r t
+  between_more r d t l =
+      ap (records_over r d) (let z : t + 1 - d ≡ suc (t - d) = omega (arith, l) in z)
+      ∙ ap (λ n. records_between r d t ++ records_at_time r n) (let z : d + (t - d) ≡ t = omega (arith, l) in z)
+
+  -- from the beginning on
+  pub from_beginning : (r : System P N) (d e : ℕ) → d ≡ 0 → records_between r d e ≡ records_below r e
+  from_beginning r d e z = ap (λ n. records_between r n e) z ∙ from_start r e
+
+  -- nothing is recorded between two boundaries
+  pub records_jump : (r : System P N) (d t e : ℕ) → d ≤ t → t ≤ e → records_below r e ≡ records_below r t → records_between r d e ≡ records_between r d t
+  records_jump r d t e a b same =
+      let back = append-same (records_below r d) (records_between r d e) (records_between r d t) (records_split r d e (omega (arith, a, b)) ∙ same ∙ sym (records_split r d t a)) in
+      back
+
+  -- the lines of one time more
+  pub lines_then : (r : System P N) (names : NamesView) (all : Bool) (d t : ℕ) (old mid new : Option (List ℕ)) → d ≤ t → Got old mid (lines_of names all (records_between r d t)) → Got mid new (lines_of names all (records_at_time r t)) → Got old new (lines_of names all (records_between r d (t + 1)))
+  lines_then r names all d t old mid new l p q =
+      subst (λ (bytes : List ℕ). Got old new bytes)
+      (sym (flat_map-append (text_of names all) (records_between r d t) (records_at_time r t)) ∙ ap (lines_of names all) (sym (between_more r d t l)))
+      (Got-more old mid new (lines_of names all (records_between r d t)) (lines_of names all (records_at_time r t)) p q)
+
+  pub prefix_then : (r : System P N) (names : NamesView) (all : Bool) (d t : ℕ) (old mid new : Option (List ℕ)) → d ≤ t → Got old mid (lines_of names all (records_between r d t)) → GotPrefix mid new (lines_of names all (records_at_time r t)) → GotPrefix old new (lines_of names all (records_between r d (t + 1)))
+  prefix_then r names all d t old mid new l p q =
       subst (λ (bytes : List ℕ). GotPrefix old new bytes)
-      (sym (flat_map-append (text_of names all) (records_below r t) (records_at_time r t)) ∙ ap (λ k. lines_of names all (records_below r k)) (sym (add-one t)))
-      (got_prefix old mid new (lines_of names all (records_below r t)) (lines_of names all (records_at_time r t)) p q)
+      (sym (flat_map-append (text_of names all) (records_between r d t) (records_at_time r t)) ∙ ap (lines_of names all) (sym (between_more r d t l)))
+      (got_prefix old mid new (lines_of names all (records_between r d t)) (lines_of names all (records_at_time r t)) p q)
 
   pub end_then : (r : System P N) (t end new : ℕ) (flag : Bool) → new ≡ pick flag t end → flag ≡ stirs_at r t → end ≡ end_below r t → new ≡ end_below r (t + 1)
   end_then r t end new flag a b c = end_more r t (t + 1) end new flag a b c refl

@@ -1,3 +1,4 @@
 pub mod PlanNames
 pub mod SleepGear
 pub mod Engine
+pub mod Between

@@ -110,6 +110,8 @@ impl<P: Actor + Drop, N: Actor + Drop, C: Charter<P, N>> Engine<P, N, C> {
             &mut self.gear,
             &self.names,
             self.base,
+            self.at,
+            self.end,
             self.until,
             all,
             sink,

@@ -1,10 +1,11 @@
 ghost use Rattle.std.specs.Prelude.{◌≡◌, ◌+◌, ◌≤◌, true, false, is_some, length};
 ghost use Rattle.sim_io.specs.Sink.{Rose, Got, GotPrefix};
-ghost use Rattle.tick_law.specs.SerialLoop.{records_below, end_below};
+ghost use Rattle.tick_law.specs.SerialLoop.{end_below};
 ghost use Rattle.tick_law.specs.PlanView.{system_of};
 ghost use Rattle.tick_law.specs.Verdict.{awake_below};
 ghost use Rattle.trace_out.specs.Names.{actors_of};
 ghost use Rattle.trace_out.specs.Lines.{lines_of};
+ghost use Rattle.phase_engine.specs.Between.{records_between};
 ghost use Rattle.phase_engine.specs.SleepGear.{IsSleepGear, IsAt};
 
 use crate::next_due::next_due;
@@ -26,12 +27,15 @@ pub struct Reached {
     pub failed: bool,
 }
 
-/// The times up to `until` at which somebody is due, each with the lines of its records.
+/// The times from boundary `from` on and up to `until` at which somebody is due, each with the lines of its records, where `before`
+/// is the ending time so far.
 pub fn run_due<P: Actor + Drop, N: Actor + Drop, C: Charter<P, N>, K: Sink, L: Ledger, M: Ledger>(
     world: &mut World<P, N>,
     gear: &mut SleepGear,
     names: &Names,
     base: u32,
+    from: u64,
+    before: u64,
     until: u64,
     all: bool,
     sink: &mut K,
@@ -39,24 +43,27 @@ pub fn run_due<P: Actor + Drop, N: Actor + Drop, C: Charter<P, N>, K: Sink, L: L
     looks: &mut Steps<M>,
 ) -> Reached
     requires gear { IsSleepGear P.machine N.machine P.valid N.valid C.plan gear.old }
-    requires at { IsAt P.machine N.machine C.plan 0 world.old gear.old.next }
+    requires at { IsAt P.machine N.machine C.plan from world.old gear.old.next }
     requires base { base ≡ length C.plan.parts }
+    requires order { from ≤ until + 1 }
     requires time { until ≤ 500000000000 }
+    requires before { before ≡ end_below (system_of P.machine N.machine C.plan) from }
     requires names { actors_of names.now ≡ length C.plan.parts + length C.plan.links }
     requires out_only { all ≡ false }
 
     ensures gear { IsSleepGear P.machine N.machine P.valid N.valid C.plan gear.new }
     ensures at { IsAt P.machine N.machine C.plan result.upto world.new gear.new.next }
+    ensures onward { from ≤ result.upto }
     ensures within { result.upto ≤ until + 1 }
     ensures end { result.end ≡ end_below (system_of P.machine N.machine C.plan) result.upto }
-    ensures steps { steps.new ≡ steps.old + awake_below (system_of P.machine N.machine C.plan) result.upto }
-    ensures whole { result.failed ≡ false → (result.upto ≡ until + 1) × Got (K.told sink.old) (K.told sink.new) (lines_of names.now all (records_below (system_of P.machine N.machine C.plan) (until + 1))) }
-    ensures prefix { result.failed ≡ true → Rose (K.faults sink.old) (K.faults sink.new) × GotPrefix (K.told sink.old) (K.told sink.new) (lines_of names.now all (records_below (system_of P.machine N.machine C.plan) result.upto)) }
+    ensures steps { steps.new + awake_below (system_of P.machine N.machine C.plan) from ≡ steps.old + awake_below (system_of P.machine N.machine C.plan) result.upto }
+    ensures whole { result.failed ≡ false → (result.upto ≡ until + 1) × Got (K.told sink.old) (K.told sink.new) (lines_of names.now all (records_between (system_of P.machine N.machine C.plan) from (until + 1))) }
+    ensures prefix { result.failed ≡ true → Rose (K.faults sink.old) (K.faults sink.new) × GotPrefix (K.told sink.old) (K.told sink.new) (lines_of names.now all (records_between (system_of P.machine N.machine C.plan) from result.upto)) }
     ensures never_falls { K.faults sink.old ≤ K.faults sink.new }
     ensures telling { is_some (K.told sink.new) ≡ is_some (K.told sink.old) }
 {
-    let mut end = 0;
-    let mut t = next_due(&gear.next, base, 0, until + 1, looks);
+    let mut end = before;
+    let mut t = next_due(&gear.next, base, from, until + 1, looks);
     while t <= until {
         let stirred = one_time::<P, N, C, L, M>(world, gear, base, t, steps, looks);
         end = later(stirred, t, end);

@@ -1,7 +1,6 @@
 -- What the object of refusals got of a line.
 use Rattle.std.specs.Prelude.{ℕ, List, Option, Result, Ok, Err, OnOk, OnErr}
-use Rattle.std.proofs.Common.{◌≡◌, ◌+◌, length, inl, inr, subst, sym, arith}
-use Rattle.std.proofs.Math.Seq.{take-length}
+use Rattle.std.proofs.Common.{◌≡◌, inl, inr, subst}
 use Rattle.sim_base.specs.declared.time.Time.{Time}
 use Rattle.sim_io.specs.Sink.{Rose, Got, GotPrefix}
 use Rattle.trace_out.proofs.Writing.{Got-more}
@@ -14,10 +13,6 @@ told_line (Err e) old new before after line got prefix rose = inr (rose, prefix)
 
 pub ap_at : (ring : Ring) (old new : Option (List ℕ)) (a b : Time) → a ≡ b → FailedAt ring old new a.0 → FailedAt ring old new b.0
 ap_at ring old new a b e at = subst (λ (t : Time). FailedAt ring old new t.0) e at
-
--- who got all lines got a prefix of those below the last boundary
-pub all_lines : (ring : Ring) (old new : Option (List ℕ)) → Got old new (lines_for ring) → FailedAt ring old new (ring.until.0 + 1)
-all_lines ring old new got = (omega arith, (length (lines_for ring), subst (λ (bytes : List ℕ). Got old new bytes) (sym (take-length (lines_for ring))) got))
 
 -- the lines and then the report
 pub all_written : (ring : Ring) (old mid new : Option (List ℕ)) (report : List ℕ) → Got old mid (lines_for ring) → report ≡ report_for ring → Got mid new report → Got old new (written_for ring)

@@ -1,8 +1,10 @@
 ghost use Rattle.std.specs.Prelude.{◌≡◌, IfOk, string_bytes};
 ghost use Rattle.top_run.specs.Top.{usage_line, write_at_line};
 
+use itoa::Buffer;
 use sim_base::{OutOfMemory, Time};
 use std::alloc::{AllocError, Global};
+use trace_out::{Line, add};
 
 /// Why a run of the program ends without a verdict.
 #[derive(Clone, Copy, Debug, PartialEq, Eq)]
@@ -34,10 +36,14 @@ pub fn usage_line(alloc: Global, word: u32) -> Result<String, AllocError>
     format!(in alloc; "akita: usage: word {word}\n")
 }
 
-/// The line of a line of the run that was not written.
-pub fn write_at_line(alloc: Global, upto: Time) -> Result<String, AllocError>
-    ensures { IfOk result (λ line. string_bytes line ≡ write_at_line upto.0) }
+/// The line that tells of a line of the run that was not written. It takes no memory.
+pub fn write_at_line(upto: Time) -> Line
+    ensures { result.items ≡ write_at_line upto.0 }
 {
-    let boundary = upto.0;
-    format!(in alloc; "akita: write at {boundary}\n")
+    let mut digits = Buffer::new();
+    let mut line = Line::new();
+    add(&mut line, b"akita: write at ");
+    add(&mut line, digits.format(upto.0).as_bytes());
+    add(&mut line, b"\n");
+    line
 }

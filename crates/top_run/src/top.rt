@@ -40,21 +40,11 @@ fn tell_usage<E: Sink>(alloc: Global, err: &mut E, word: u32) -> Status
     }
 }
 
-fn tell_write_at<E: Sink>(alloc: Global, err: &mut E, upto: Time) -> Status
-    ensures either { (result.0 ≡ 6) ⊎ (result.0 ≡ 8) }
-    ensures write { result.0 ≡ 6 → Told (write_at_line upto.0) (E.told err.old) (E.told err.new) (E.faults err.old) (E.faults err.new) }
-    ensures memory { result.0 ≡ 8 → Told memory_line (E.told err.old) (E.told err.new) (E.faults err.old) (E.faults err.new) }
+/// Writes the line that tells of a line of the run that was not written.
+fn tell_write_at<E: Sink>(err: &mut E, upto: Time)
+    ensures { Told (write_at_line upto.0) (E.told err.old) (E.told err.new) (E.faults err.old) (E.faults err.new) }
 {
-    match write_at_line(alloc, upto) {
-        Ok(line) => {
-            tell(err, line.as_bytes());
-            Status(6)
-        }
-        Err(_) => {
-            tell(err, b"akita: memory\n");
-            Status(8)
-        }
-    }
+    tell(err, write_at_line(upto).as_slice());
 }
 
 fn write_report<K: Sink>(out: &mut K, report: &[u8]) -> Result<(), Refusal>
@@ -112,13 +102,16 @@ pub fn plain<F: Files, K: Sink, E: Sink, L: Ledger>(
 
     ensures write { IfSome result (λ s. s.0 ≡ 6 → (ring : Ring) × Accepts (spelled words.now) ring × Rose (K.faults out.old) (K.faults out.new) × ((FailedBehind ring (K.told out.old) (K.told out.new) × Told write_line (E.told err.old) (E.told err.new) (E.faults err.old) (E.faults err.new)) ⊎ ((d : ℕ) × FailedAt ring (K.told out.old) (K.told out.new) d × Told (write_at_line d) (E.told err.old) (E.told err.new) (E.faults err.old) (E.faults err.new)))) }
     ensures memory { IfSome result (λ s. s.0 ≡ 8 → Told memory_line (E.told err.old) (E.told err.new) (E.faults err.old) (E.faults err.new)) }
-    ensures unreported { IfSome result (λ s. s.0 ≡ 8 → (out.new ≡ out.old) ⊎ ((ring : Ring) × Accepts (spelled words.now) ring × ((d : ℕ) × FailedAt ring (K.told out.old) (K.told out.new) d))) }
+    ensures unreported { IfSome result (λ s. s.0 ≡ 8 → (out.new ≡ out.old) ⊎ ((ring : Ring) × Accepts (spelled words.now) ring × Got (K.told out.old) (K.told out.new) (lines_for ring))) }
     ensures files { files.new ≡ files.old }
 {
     let status = match run_words(alloc, words, out, steps) {
         Ok(verdict) => Status::of(verdict),
         Err(Refusal::Usage(word)) => tell_usage(alloc, err, word),
-        Err(Refusal::WriteAt(upto)) => tell_write_at(alloc, err, upto),
+        Err(Refusal::WriteAt(upto)) => {
+            tell_write_at(err, upto);
+            Status(6)
+        }
         Err(Refusal::Write) => {
             tell(err, b"akita: write\n");
             Status(6)

@@ -5,5 +5,6 @@ mod line;
 mod names;
 mod write;
 
+pub use line::{Line, add};
 pub use names::{Names, PortName};
 pub use write::write_records;

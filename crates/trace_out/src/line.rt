@@ -7,14 +7,14 @@ use arrayvec::ArrayVec;
 use itoa::Buffer;
 use sim_base::{Name, Time};
 
-/// The most bytes of a line: 20 digits of a time, ` out `, a name, a blank, 2 digits of a byte, and the line feed.
+/// The most bytes of a line of a trace: 20 digits of a time, ` out `, a name, a blank, 2 digits of a byte, and the line feed.
 const LONGEST_LINE: usize = 61;
 
-/// A line as it is made.
+/// A line as it is made, of at most 61 bytes. It takes no memory.
 pub type Line = ArrayVec<u8, LONGEST_LINE>;
 
 /// Appends a piece, for which there is room.
-fn add(line: &mut Line, piece: &[u8])
+pub fn add(line: &mut Line, piece: &[u8])
     requires room { array_vec_len line.old + length piece.now ≤ LONGEST_LINE }
 
     ensures { line.new.items ≡ line.old.items ++ piece.now }

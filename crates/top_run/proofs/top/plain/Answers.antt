@@ -1,8 +1,7 @@
-use Rattle.std.proofs.Common.{◌≡◌, ◌+◌, Err, take, inl, inr, sym, ap}
+use Rattle.std.proofs.Common.{◌≡◌, Err, take, inl, sym, ap}
 use Rattle.top_run.specs.Words.{spelled}
 use Rattle.top_run.proofs.Spelling.{completed}
-use Rattle.top_run.proofs.Telling.{all_lines}
-use Rattle.top_run.specs.declared.refusal.Refusal.TheVariants.{Usage, OutOfMemory}
+use Rattle.top_run.specs.declared.refusal.Refusal.TheVariants.{Usage}
 use Rattle.top_run.proofs.top.plain.Goals as goal
 
 pub returns-in-Ok-clause-complete : goal.returns-in-Ok-clause-complete
@@ -31,11 +30,3 @@ returns-in-Err-Usage-clause-unreported g c = λ eight.
     let is : c.run_words.result ≡ Err (Usage c.in-Err-Usage.word) = cc in
     let refused = c.run_words.ensures.usage c.in-Err-Usage.word is in
     inl refused.1
-
-pub returns-in-Err-OutOfMemory-clause-unreported : goal.returns-in-Err-OutOfMemory-clause-unreported
-returns-in-Err-OutOfMemory-clause-unreported g c = λ eight.
-    let is : c.run_words.result ≡ Err OutOfMemory = cc in
-    elim (c.run_words.ensures.memory is) [
-      | inl same ↦ inl same
-      | inr (ring, accepts, lines) ↦ inr (ring, accepts, (ring.until.0 + 1, all_lines ring (g.K.Sink.told c.args.out.now) (g.K.Sink.told c.run_words.new.out) lines))
-    ]
