@@ -7,7 +7,7 @@ use addr_map::{Range, Ranges, Targets};
 use direct_link::{Direct, DirectText};
 use mem_ctrl::{Memory, MemoryText};
 use part_kind::{LinkKind, Part};
-use phase_engine::{RunFault, run_plan};
+use phase_engine::{Engine, RunFault, run_plan};
 use ring_plan::ring_plan;
 use serial_loop::Ending;
 use sim_base::{ActorNo, Body, LinkNo, Mode, Name, OutOfMemory, PortList, PortNo, Steps, Time};
@@ -17,7 +17,7 @@ use std::marker::Brand;
 use std::sync::Arc;
 use std::sync::atomic::{AtomicU64, Ordering};
 use std::sync::ledger::{Blank, Ledger};
-use tick_law::{Plan, Verdict, World};
+use tick_law::{Charter, Plan, Verdict, World};
 use traffic_parts::{Agent, AgentText};
 
 /// How a run ended, and how many ticks its actors had made by then.
@@ -254,5 +254,68 @@ fn an_agent_that_nobody_answers_is_stuck(rt: HostRuntime) -> Result<(), RunFault
     let ran = run(alloc, agent_and_agent(alloc)?)?;
     assert_eq!(rt; ran.ending.verdict, Verdict::Stuck);
     assert_eq!(rt; ran.ticks, 10);
+    Ok(())
+}
+
+/// What an engine shows where it stops: its ending time, and how many messages its link has moved.
+#[derive(Clone, Copy, Debug, PartialEq, Eq)]
+struct Stop {
+    end: Time,
+    moved: u64,
+}
+
+/// What the engine of a plan shows behind one time, and then behind a later one.
+fn two_stops<C: Charter<Counted<Part>, Counted<LinkKind>>, L: Ledger>(
+    alloc: Global,
+    blank: Blank,
+    plan: Plan<Counted<Part>, Counted<LinkKind>>,
+    first: Time,
+    second: Time,
+) -> Result<(Stop, Stop), OutOfMemory>
+    requires plan { plan ≡ C.plan }
+    requires order { first.0 ≤ second.0 }
+    requires within { second.0 ≤ plan.until }
+    requires name { blank.name ≡ L.name }
+    requires parts { blank.parts ≡ L.parts }
+    requires some { 0 < blank.parts }
+{
+    let mut steps = Steps::<L>::open(blank);
+    let mut engine = Engine::<Counted<Part>, Counted<LinkKind>, C>::open(alloc, plan)?;
+    engine.advance_to(first, &mut steps);
+    let early = Stop {
+        end: engine.end_time(),
+        moved: moved(engine.world()),
+    };
+    engine.advance_to(second, &mut steps);
+    let late = Stop {
+        end: engine.end_time(),
+        moved: moved(engine.world()),
+    };
+    Ok((early, late))
+}
+
+#[test]
+fn an_engine_goes_on_from_where_it_stopped(rt: HostRuntime) -> Result<(), OutOfMemory> {
+    let alloc = rt.alloc();
+    let ticks = Arc::new(alloc, AtomicU64::new(0))?;
+    let plan = counted_plan(alloc, ring_plan(alloc, 3, Time(20000))?, &ticks)?;
+    let (early, late) = two_stops::<Brand, Brand>(
+        alloc,
+        Blank::new(1),
+        plan,
+        Time(5000),
+        Time(20000),
+    )?;
+    let at_5000 = Stop {
+        end: Time(5000),
+        moved: 3,
+    };
+    let at_20000 = Stop {
+        end: Time(11000),
+        moved: 6,
+    };
+    assert_eq!(rt; early, at_5000);
+    assert_eq!(rt; late, at_20000);
+    assert_eq!(rt; ticks.load(Ordering::SeqCst), 33);
     Ok(())
 }
