@@ -2,7 +2,9 @@
 #![tactic(auto)]
 
 mod counted;
+mod pair;
 #[cfg(test)]
 mod tests;
 
 pub use counted::{Counted, counted_plan};
+pub use pair::pair_plan;
