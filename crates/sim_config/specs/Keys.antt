@@ -1,11 +1,14 @@
 -- The keys of each table: their words, the numbers that they have, and what stands where one is left out.
-use Rattle.std.specs.Prelude.{◌≡◌, ℕ, ◌-◌, ◌%◌, ◌^◌, ◌≤◌, ◌==◌, ◌&&◌, nat_le, min, Bool, true, false, IsTrue, List, [], ◌∷◌, Option, Some, None, codes}
+use Rattle.std.specs.Prelude.{◌≡◌, ℕ, ◌%◌, ◌≤◌, ◌==◌, ◌&&◌, nat_le, min, Bool, true, IsTrue, List, [], ◌∷◌, Option, codes}
 use Rattle.std.specs.Int.{is_power_of_two}
 use Rattle.sim_config.specs.declared.keys.Allowed.{Allowed}
 use Rattle.sim_config.specs.declared.keys.Shape.{Shape}
 use Rattle.sim_config.specs.declared.keys.Shape.TheVariants.{Any, MultipleOf4, MultipleOf64, PowerOfTwo}
 use Rattle.sim_config.specs.declared.keys.NumberKey.{NumberKey}
 use Rattle.sim_config.specs.declared.keys.ListKey.{ListKey}
+use Rattle.sim_config.specs.declared.keys.KeyWord.{KeyWord}
+use Rattle.sim_config.specs.declared.keys.KeyWord.TheVariants.{Version, Until, Period, Base, Size, Granule, Buffer, Start, Span, Count, Window, Gap, Draw, Latency, Depth, Line, Sets, Ways, Pc, Map, Part, Link, Program, Range, To, Words, Ports}
+use Rattle.sim_config.specs.declared.keys.TheConstants.{ADDRESS_LIMIT, AGENT_BASE, BASE, BUFFER, COUNT, DEPTH, DRAW, GAP, GRANULE, LATENCY, LINE, LINKS, MAPS, MEMORY_SIZE, PARTS, PC, PERIOD, PORTS, PROGRAMS, RANGES, SETS, SIZE, SPAN, START, TO, TOKEN, UNTIL, VERSION, WAYS, WINDOW, WORDS, WORD_VALUES}
 use Rattle.sim_config.specs.declared.kinds.PartKind.{PartKind}
 use Rattle.sim_config.specs.declared.kinds.PartKind.TheVariants.{Relay, Agent, Memory, Cache, Core}
 use Rattle.sim_config.specs.declared.kinds.LinkKind.{LinkKind}
@@ -33,21 +36,39 @@ pub record IsAllowed (a : Allowed) (n : ℕ) : Type 0 where
   pub greatest : n ≤ a.greatest
   pub shape : HasShape a.shape n
 
-abbrev pub between : ℕ → ℕ → Allowed
-between least greatest = record { least = least; greatest = greatest; shape = Any }
-
-abbrev pub multiples_of_4 : ℕ → ℕ → Allowed
-multiples_of_4 least greatest = record { least = least; greatest = greatest; shape = MultipleOf4 }
-
-abbrev pub multiples_of_64 : ℕ → ℕ → Allowed
-multiples_of_64 least greatest = record { least = least; greatest = greatest; shape = MultipleOf64 }
-
-abbrev pub powers_of_two : ℕ → ℕ → Allowed
-powers_of_two least greatest = record { least = least; greatest = greatest; shape = PowerOfTwo }
-
 -- those that are not above a number
 abbrev pub up_to : ℕ → Allowed → Allowed
 up_to n a = record a { greatest = min a.greatest n }
+
+-- the word of a key
+abbrev pub key_word : KeyWord → List ℕ
+key_word Version = codes "version"
+key_word Until = codes "until"
+key_word Period = codes "period"
+key_word Base = codes "base"
+key_word Size = codes "size"
+key_word Granule = codes "granule"
+key_word Buffer = codes "buffer"
+key_word Start = codes "start"
+key_word Span = codes "span"
+key_word Count = codes "count"
+key_word Window = codes "window"
+key_word Gap = codes "gap"
+key_word Draw = codes "draw"
+key_word Latency = codes "latency"
+key_word Depth = codes "depth"
+key_word Line = codes "line"
+key_word Sets = codes "sets"
+key_word Ways = codes "ways"
+key_word Pc = codes "pc"
+key_word Map = codes "map"
+key_word Part = codes "part"
+key_word Link = codes "link"
+key_word Program = codes "program"
+key_word Range = codes "range"
+key_word To = codes "to"
+key_word Words = codes "words"
+key_word Ports = codes "ports"
 
 -- a key that has a number, and the number where the key is left out
 pub record NumberRow : Type 0 where
@@ -56,13 +77,7 @@ pub record NumberRow : Type 0 where
   pub default : Option ℕ
 
 abbrev pub number_row : NumberKey → NumberRow
-number_row k = record { word = k.word.now; allowed = k.allowed; default = k.default }
-
-abbrev pub required : List ℕ → Allowed → NumberRow
-required word allowed = record { word = word; allowed = allowed; default = None }
-
-abbrev pub defaulted : List ℕ → Allowed → ℕ → NumberRow
-defaulted word allowed default = record { word = word; allowed = allowed; default = Some default }
+number_row k = record { word = key_word k.key; allowed = k.allowed; default = k.default }
 
 -- the key, with no number above this one
 abbrev pub at_most : ℕ → NumberRow → NumberRow
@@ -75,44 +90,34 @@ pub record ListRow : Type 0 where
   pub is_optional : Bool
 
 abbrev pub list_row : ListKey → ListRow
-list_row k = record { word = k.word.now; lengths = k.lengths; is_optional = k.is_optional }
-
-abbrev pub list : List ℕ → Allowed → ListRow
-list word lengths = record { word = word; lengths = lengths; is_optional = false }
-
-abbrev pub optional_list : List ℕ → Allowed → ListRow
-optional_list word lengths = record { word = word; lengths = lengths; is_optional = true }
+list_row k = record { word = key_word k.key; lengths = k.lengths; is_optional = k.is_optional }
 
 -- the key, with no list longer than this
 abbrev pub no_longer_than : ℕ → ListRow → ListRow
 no_longer_than n row = record row { lengths = up_to n row.lengths }
 
--- No list is longer than this.
-abbrev pub any_length : Allowed
-any_length = between 0 (2 ^ 64 - 1)
-
 -- An address is below this.
 abbrev pub address_limit : ℕ
-address_limit = 4294967296
+address_limit = ADDRESS_LIMIT
 
 -- the document
 abbrev pub version : NumberRow
-version = required (codes "version") (between 1 1)
+version = number_row VERSION
 
 abbrev pub until : NumberRow
-until = defaulted (codes "until") (between 0 500000000000) 500000000000
+until = number_row UNTIL
 
 abbrev pub maps : ListRow
-maps = optional_list (codes "map") any_length
+maps = list_row MAPS
 
 abbrev pub parts : ListRow
-parts = optional_list (codes "part") any_length
+parts = list_row PARTS
 
 abbrev pub links : ListRow
-links = optional_list (codes "link") any_length
+links = list_row LINKS
 
 abbrev pub programs : ListRow
-programs = optional_list (codes "program") any_length
+programs = list_row PROGRAMS
 
 abbrev pub top_words : List (List ℕ)
 top_words = version.word ∷ until.word ∷ maps.word ∷ parts.word ∷ links.word ∷ programs.word ∷ []
@@ -125,95 +130,95 @@ abbrev pub kind : List ℕ
 kind = codes "kind"
 
 abbrev pub period : NumberRow
-period = required (codes "period") (between 1 1000000000)
+period = number_row PERIOD
 
 -- a map
 abbrev pub ranges : ListRow
-ranges = list (codes "range") (between 1 64)
+ranges = list_row RANGES
 
 abbrev pub map_words : List (List ℕ)
 map_words = name ∷ ranges.word ∷ []
 
 -- a range
 abbrev pub base : NumberRow
-base = required (codes "base") (multiples_of_64 0 4294967232)
+base = number_row BASE
 
 abbrev pub size : NumberRow
-size = required (codes "size") (multiples_of_64 64 4294967296)
+size = number_row SIZE
 
 abbrev pub to : ListRow
-to = list (codes "to") (powers_of_two 1 16)
+to = list_row TO
 
 abbrev pub granule : NumberRow
-granule = defaulted (codes "granule") (powers_of_two 64 2147483648) 64
+granule = number_row GRANULE
 
 abbrev pub range_words : List (List ℕ)
 range_words = base.word ∷ size.word ∷ to.word ∷ granule.word ∷ []
 
 -- a part of every kind
 abbrev pub buffer : NumberRow
-buffer = defaulted (codes "buffer") (between 1 64) 4
+buffer = number_row BUFFER
 
 -- a relay; its `start` may be left out
 abbrev pub target : List ℕ
 target = codes "to"
 
 abbrev pub token : NumberRow
-token = required (codes "start") (between 1 1000000)
+token = number_row TOKEN
 
 -- an agent
 abbrev pub address_map : List ℕ
 address_map = codes "map"
 
 abbrev pub agent_base : NumberRow
-agent_base = required (codes "base") (multiples_of_4 0 4294967292)
+agent_base = number_row AGENT_BASE
 
 abbrev pub span : NumberRow
-span = required (codes "span") (multiples_of_4 4 4294967296)
+span = number_row SPAN
 
 abbrev pub count : NumberRow
-count = required (codes "count") (between 0 1000000)
+count = number_row COUNT
 
 abbrev pub window : NumberRow
-window = defaulted (codes "window") (between 1 64) 1
+window = number_row WINDOW
 
 abbrev pub gap : NumberRow
-gap = defaulted (codes "gap") (between 1 1000000) 1
+gap = number_row GAP
 
 abbrev pub start : NumberRow
-start = defaulted (codes "start") (between 0 1000000) 0
+start = number_row START
 
 abbrev pub mode : List ℕ
 mode = codes "mode"
 
 abbrev pub draw : NumberRow
-draw = defaulted (codes "draw") (between 0 4294967295) 0
+draw = number_row DRAW
 
 -- a memory
 abbrev pub memory_size : NumberRow
-memory_size = required (codes "size") (multiples_of_64 64 268435456)
+memory_size = number_row MEMORY_SIZE
 
 abbrev pub latency : NumberRow
-latency = defaulted (codes "latency") (between 1 1000000) 1
+latency = number_row LATENCY
 
 abbrev pub depth : NumberRow
-depth = defaulted (codes "depth") (between 1 64) 4
+depth = number_row DEPTH
 
 abbrev pub words : ListRow
-words = optional_list (codes "words") any_length
+words = list_row WORDS
 
 abbrev pub word_values : Allowed
-word_values = between 0 4294967295
+word_values = WORD_VALUES
 
 -- a cache
 abbrev pub line : NumberRow
-line = defaulted (codes "line") (powers_of_two 16 64) 64
+line = number_row LINE
 
 abbrev pub sets : NumberRow
-sets = required (codes "sets") (powers_of_two 1 1024)
+sets = number_row SETS
 
 abbrev pub ways : NumberRow
-ways = required (codes "ways") (between 1 16)
+ways = number_row WAYS
 
 -- a core
 abbrev pub inst : List ℕ
@@ -223,7 +228,7 @@ abbrev pub data_map : List ℕ
 data_map = codes "data"
 
 abbrev pub pc : NumberRow
-pc = defaulted (codes "pc") (between 0 4294967295) 0
+pc = number_row PC
 
 abbrev pub part_words : List (List ℕ)
 part_words = name ∷ kind ∷ period.word ∷ buffer.word ∷ []
@@ -237,7 +242,7 @@ part_kind_words Core = inst ∷ data_map ∷ pc.word ∷ []
 
 -- a link
 abbrev pub ports : ListRow
-ports = list (codes "ports") (between 1 1024)
+ports = list_row PORTS
 
 abbrev pub link_words : List (List ℕ)
 link_words = name ∷ kind ∷ period.word ∷ []

@@ -18,10 +18,42 @@ pub(crate) enum Shape {
     PowerOfTwo,
 }
 
+/// The word of a key that has a row here.
+#[derive(Clone, Copy)]
+pub(crate) enum KeyWord {
+    Version,
+    Until,
+    Period,
+    Base,
+    Size,
+    Granule,
+    Buffer,
+    Start,
+    Span,
+    Count,
+    Window,
+    Gap,
+    Draw,
+    Latency,
+    Depth,
+    Line,
+    Sets,
+    Ways,
+    Pc,
+    Map,
+    Part,
+    Link,
+    Program,
+    Range,
+    To,
+    Words,
+    Ports,
+}
+
 /// A key that has a number, and the number where the key is left out.
 #[derive(Clone, Copy)]
 pub(crate) struct NumberKey {
-    pub word: &'static str,
+    pub key: KeyWord,
     pub allowed: Allowed,
     pub default: Option<u64>,
 }
@@ -29,9 +61,47 @@ pub(crate) struct NumberKey {
 /// A key that has a list, and whether it may be left out, for the empty list.
 #[derive(Clone, Copy)]
 pub(crate) struct ListKey {
-    pub word: &'static str,
+    pub key: KeyWord,
     pub lengths: Allowed,
     pub is_optional: bool,
+}
+
+impl KeyWord {
+    ghost use Rattle.sim_config.specs.Keys.{key_word};
+
+    pub(crate) fn as_str(self) -> &'static str
+        ensures { result.now ≡ key_word self }
+    {
+        match self {
+            KeyWord::Version => "version",
+            KeyWord::Until => "until",
+            KeyWord::Period => "period",
+            KeyWord::Base => "base",
+            KeyWord::Size => "size",
+            KeyWord::Granule => "granule",
+            KeyWord::Buffer => "buffer",
+            KeyWord::Start => "start",
+            KeyWord::Span => "span",
+            KeyWord::Count => "count",
+            KeyWord::Window => "window",
+            KeyWord::Gap => "gap",
+            KeyWord::Draw => "draw",
+            KeyWord::Latency => "latency",
+            KeyWord::Depth => "depth",
+            KeyWord::Line => "line",
+            KeyWord::Sets => "sets",
+            KeyWord::Ways => "ways",
+            KeyWord::Pc => "pc",
+            KeyWord::Map => "map",
+            KeyWord::Part => "part",
+            KeyWord::Link => "link",
+            KeyWord::Program => "program",
+            KeyWord::Range => "range",
+            KeyWord::To => "to",
+            KeyWord::Words => "words",
+            KeyWord::Ports => "ports",
+        }
+    }
 }
 
 impl Shape {
@@ -71,6 +141,12 @@ impl Allowed {
 impl NumberKey {
     ghost use Rattle.sim_config.specs.Keys.{at_most, number_row};
 
+    pub(crate) fn word(&self) -> &'static str
+        ensures { result.now ≡ (number_row self.now).word }
+    {
+        self.key.as_str()
+    }
+
     /// The key, with no number above this one.
     pub(crate) fn at_most(self, greatest: u64) -> Self
         ensures { number_row result ≡ at_most greatest (number_row self) }
@@ -84,6 +160,12 @@ impl NumberKey {
 
 impl ListKey {
     ghost use Rattle.sim_config.specs.Keys.{no_longer_than, list_row};
+
+    pub(crate) fn word(&self) -> &'static str
+        ensures { result.now ≡ (list_row self.now).word }
+    {
+        self.key.as_str()
+    }
 
     /// The key, with no list longer than this.
     pub(crate) fn no_longer_than(self, greatest: u64) -> Self
@@ -114,7 +196,7 @@ pub(crate) const WORD_VALUES: Allowed = Allowed {
 };
 
 pub(crate) const VERSION: NumberKey = NumberKey {
-    word: "version",
+    key: KeyWord::Version,
     allowed: Allowed {
         least: 1,
         greatest: 1,
@@ -124,7 +206,7 @@ pub(crate) const VERSION: NumberKey = NumberKey {
 };
 
 pub(crate) const UNTIL: NumberKey = NumberKey {
-    word: "until",
+    key: KeyWord::Until,
     allowed: Allowed {
         least: 0,
         greatest: 500_000_000_000,
@@ -134,7 +216,7 @@ pub(crate) const UNTIL: NumberKey = NumberKey {
 };
 
 pub(crate) const PERIOD: NumberKey = NumberKey {
-    word: "period",
+    key: KeyWord::Period,
     allowed: Allowed {
         least: 1,
         greatest: 1_000_000_000,
@@ -144,7 +226,7 @@ pub(crate) const PERIOD: NumberKey = NumberKey {
 };
 
 pub(crate) const BASE: NumberKey = NumberKey {
-    word: "base",
+    key: KeyWord::Base,
     allowed: Allowed {
         least: 0,
         greatest: 4_294_967_232,
@@ -154,7 +236,7 @@ pub(crate) const BASE: NumberKey = NumberKey {
 };
 
 pub(crate) const SIZE: NumberKey = NumberKey {
-    word: "size",
+    key: KeyWord::Size,
     allowed: Allowed {
         least: 64,
         greatest: 4_294_967_296,
@@ -164,7 +246,7 @@ pub(crate) const SIZE: NumberKey = NumberKey {
 };
 
 pub(crate) const GRANULE: NumberKey = NumberKey {
-    word: "granule",
+    key: KeyWord::Granule,
     allowed: Allowed {
         least: 64,
         greatest: 2_147_483_648,
@@ -174,7 +256,7 @@ pub(crate) const GRANULE: NumberKey = NumberKey {
 };
 
 pub(crate) const BUFFER: NumberKey = NumberKey {
-    word: "buffer",
+    key: KeyWord::Buffer,
     allowed: Allowed {
         least: 1,
         greatest: 64,
@@ -184,7 +266,7 @@ pub(crate) const BUFFER: NumberKey = NumberKey {
 };
 
 pub(crate) const TOKEN: NumberKey = NumberKey {
-    word: "start",
+    key: KeyWord::Start,
     allowed: Allowed {
         least: 1,
         greatest: 1_000_000,
@@ -194,7 +276,7 @@ pub(crate) const TOKEN: NumberKey = NumberKey {
 };
 
 pub(crate) const AGENT_BASE: NumberKey = NumberKey {
-    word: "base",
+    key: KeyWord::Base,
     allowed: Allowed {
         least: 0,
         greatest: 4_294_967_292,
@@ -204,7 +286,7 @@ pub(crate) const AGENT_BASE: NumberKey = NumberKey {
 };
 
 pub(crate) const SPAN: NumberKey = NumberKey {
-    word: "span",
+    key: KeyWord::Span,
     allowed: Allowed {
         least: 4,
         greatest: 4_294_967_296,
@@ -214,7 +296,7 @@ pub(crate) const SPAN: NumberKey = NumberKey {
 };
 
 pub(crate) const COUNT: NumberKey = NumberKey {
-    word: "count",
+    key: KeyWord::Count,
     allowed: Allowed {
         least: 0,
         greatest: 1_000_000,
@@ -224,7 +306,7 @@ pub(crate) const COUNT: NumberKey = NumberKey {
 };
 
 pub(crate) const WINDOW: NumberKey = NumberKey {
-    word: "window",
+    key: KeyWord::Window,
     allowed: Allowed {
         least: 1,
         greatest: 64,
@@ -234,7 +316,7 @@ pub(crate) const WINDOW: NumberKey = NumberKey {
 };
 
 pub(crate) const GAP: NumberKey = NumberKey {
-    word: "gap",
+    key: KeyWord::Gap,
     allowed: Allowed {
         least: 1,
         greatest: 1_000_000,
@@ -244,7 +326,7 @@ pub(crate) const GAP: NumberKey = NumberKey {
 };
 
 pub(crate) const START: NumberKey = NumberKey {
-    word: "start",
+    key: KeyWord::Start,
     allowed: Allowed {
         least: 0,
         greatest: 1_000_000,
@@ -254,7 +336,7 @@ pub(crate) const START: NumberKey = NumberKey {
 };
 
 pub(crate) const DRAW: NumberKey = NumberKey {
-    word: "draw",
+    key: KeyWord::Draw,
     allowed: Allowed {
         least: 0,
         greatest: 4_294_967_295,
@@ -264,7 +346,7 @@ pub(crate) const DRAW: NumberKey = NumberKey {
 };
 
 pub(crate) const MEMORY_SIZE: NumberKey = NumberKey {
-    word: "size",
+    key: KeyWord::Size,
     allowed: Allowed {
         least: 64,
         greatest: 268_435_456,
@@ -274,7 +356,7 @@ pub(crate) const MEMORY_SIZE: NumberKey = NumberKey {
 };
 
 pub(crate) const LATENCY: NumberKey = NumberKey {
-    word: "latency",
+    key: KeyWord::Latency,
     allowed: Allowed {
         least: 1,
         greatest: 1_000_000,
@@ -284,7 +366,7 @@ pub(crate) const LATENCY: NumberKey = NumberKey {
 };
 
 pub(crate) const DEPTH: NumberKey = NumberKey {
-    word: "depth",
+    key: KeyWord::Depth,
     allowed: Allowed {
         least: 1,
         greatest: 64,
@@ -294,7 +376,7 @@ pub(crate) const DEPTH: NumberKey = NumberKey {
 };
 
 pub(crate) const LINE: NumberKey = NumberKey {
-    word: "line",
+    key: KeyWord::Line,
     allowed: Allowed {
         least: 16,
         greatest: 64,
@@ -304,7 +386,7 @@ pub(crate) const LINE: NumberKey = NumberKey {
 };
 
 pub(crate) const SETS: NumberKey = NumberKey {
-    word: "sets",
+    key: KeyWord::Sets,
     allowed: Allowed {
         least: 1,
         greatest: 1024,
@@ -314,7 +396,7 @@ pub(crate) const SETS: NumberKey = NumberKey {
 };
 
 pub(crate) const WAYS: NumberKey = NumberKey {
-    word: "ways",
+    key: KeyWord::Ways,
     allowed: Allowed {
         least: 1,
         greatest: 16,
@@ -324,7 +406,7 @@ pub(crate) const WAYS: NumberKey = NumberKey {
 };
 
 pub(crate) const PC: NumberKey = NumberKey {
-    word: "pc",
+    key: KeyWord::Pc,
     allowed: Allowed {
         least: 0,
         greatest: 4_294_967_295,
@@ -334,31 +416,31 @@ pub(crate) const PC: NumberKey = NumberKey {
 };
 
 pub(crate) const MAPS: ListKey = ListKey {
-    word: "map",
+    key: KeyWord::Map,
     lengths: ANY_LENGTH,
     is_optional: true,
 };
 
 pub(crate) const PARTS: ListKey = ListKey {
-    word: "part",
+    key: KeyWord::Part,
     lengths: ANY_LENGTH,
     is_optional: true,
 };
 
 pub(crate) const LINKS: ListKey = ListKey {
-    word: "link",
+    key: KeyWord::Link,
     lengths: ANY_LENGTH,
     is_optional: true,
 };
 
 pub(crate) const PROGRAMS: ListKey = ListKey {
-    word: "program",
+    key: KeyWord::Program,
     lengths: ANY_LENGTH,
     is_optional: true,
 };
 
 pub(crate) const RANGES: ListKey = ListKey {
-    word: "range",
+    key: KeyWord::Range,
     lengths: Allowed {
         least: 1,
         greatest: 64,
@@ -368,7 +450,7 @@ pub(crate) const RANGES: ListKey = ListKey {
 };
 
 pub(crate) const TO: ListKey = ListKey {
-    word: "to",
+    key: KeyWord::To,
     lengths: Allowed {
         least: 1,
         greatest: 16,
@@ -378,13 +460,13 @@ pub(crate) const TO: ListKey = ListKey {
 };
 
 pub(crate) const WORDS: ListKey = ListKey {
-    word: "words",
+    key: KeyWord::Words,
     lengths: ANY_LENGTH,
     is_optional: true,
 };
 
 pub(crate) const PORTS: ListKey = ListKey {
-    word: "ports",
+    key: KeyWord::Ports,
     lengths: Allowed {
         least: 1,
         greatest: 1024,

@@ -99,9 +99,9 @@ pub(crate) fn list<E: Element>(
     ensures meaning { Gives result (list_at E.value_in section.now.place (list_row key.now) (table_view section.now.table.now)) }
     ensures lengths { IfOk result (λ list. IsAllowed key.now.lengths (length list)) }
 {
-    match section.value(key.word) {
-        Some(value) => list_in::<E>(alloc, section, key.word, &key.lengths, value),
-        None => Err(section.fault(ConfigRule::Missing, key.word)),
+    match section.value(key.word()) {
+        Some(value) => list_in::<E>(alloc, section, key.word(), &key.lengths, value),
+        None => Err(section.fault(ConfigRule::Missing, key.word())),
     }
 }
 
@@ -116,8 +116,8 @@ pub(crate) fn optional_list<E: Element>(
     ensures meaning { Gives result (list_at E.value_in section.now.place (list_row key.now) (table_view section.now.table.now)) }
     ensures length { IfOk result (λ list. length list ≤ key.now.lengths.greatest) }
 {
-    match section.value(key.word) {
-        Some(value) => list_in::<E>(alloc, section, key.word, &key.lengths, value),
+    match section.value(key.word()) {
+        Some(value) => list_in::<E>(alloc, section, key.word(), &key.lengths, value),
         None => Ok(ListOf::of(Vec::new(alloc))),
     }
 }

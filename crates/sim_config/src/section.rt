@@ -111,11 +111,11 @@ impl<'a> Section<'a> {
         ensures value { result ≡ number_at self.now.place (number_row key.now) (table_view self.now.table.now) }
         ensures allowed { IfOk result (IsAllowed key.now.allowed) }
     {
-        let read = match self.value(key.word) {
+        let read = match self.value(key.word()) {
             Some(value) => number_in(value, &key.allowed),
             None => key.default.ok_or(ConfigRule::Missing),
         };
-        self.at_key(key.word, read)
+        self.at_key(key.word(), read)
     }
 
     /// A number, or None where the key is left out.
@@ -123,11 +123,11 @@ impl<'a> Section<'a> {
         ensures value { result ≡ optional_number_at self.now.place (number_row key.now) (table_view self.now.table.now) }
         ensures allowed { IfOk result (λ number. IfSome number (IsAllowed key.now.allowed)) }
     {
-        let read = match self.value(key.word) {
+        let read = match self.value(key.word()) {
             Some(value) => some_number_in(value, &key.allowed),
             None => Ok(None),
         };
-        self.at_key(key.word, read)
+        self.at_key(key.word(), read)
     }
 
     pub(crate) fn name(&self, word: &str) -> Result<Name, ConfigFault>

@@ -85,14 +85,14 @@ pub(crate) fn tables<'a>(section: &Section<'a>, key: &ListKey) -> Result<&'a [Va
     ensures tables { IfOk result (λ values. some_wrong_type table_in (items_view values.now) ≡ false) }
     ensures lengths { key.now.is_optional ≡ false → IfOk result (λ values. IsAllowed key.now.lengths (length values.now)) }
 {
-    let Some(value) = section.value(key.word) else {
+    let Some(value) = section.value(key.word()) else {
         if key.is_optional {
             return Ok(&[]);
         }
-        return Err(section.fault(ConfigRule::Missing, key.word));
+        return Err(section.fault(ConfigRule::Missing, key.word()));
     };
     match tables_in(value, &key.lengths) {
         Ok(values) => Ok(values),
-        Err(rule) => Err(section.fault(rule, key.word)),
+        Err(rule) => Err(section.fault(rule, key.word())),
     }
 }
