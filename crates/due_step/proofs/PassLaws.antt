@@ -1,6 +1,7 @@
 -- A pass over those that are due, one after another.
 use Rattle.std.proofs.Common.{◌≡◌, ◌≢◌, ℕ, ◌+◌, ◌-◌, ◌*◌, ◌/◌, ◌<◌, ◌≤◌, List, ◌++◌, length, zero, suc, sym, ◌∙◌, ap, subst, arith, refl, append-nil}
 use Rattle.std.specs.Prelude.{Option, Some, None, Bool, true, false, ◌==◌, ◌||◌, slice_get, slice_set, IsTrue}
+use Rattle.std.proofs.lemmas.Bool.{eq-eqb}
 use Rattle.std.proofs.lemmas.Bool.Decides.{nat_tests}
 use Rattle.port_msg.specs.PortView.{PortView}
 use Rattle.port_msg.specs.RecView.{records_at}
@@ -44,7 +45,7 @@ not_due_of (Some u) t apart = here (u.0 == t) refl
     here false e = e
 
 due_of : (o : Option Time) (t : ℕ) → o ≡ Some (record { 0 = t }) → due_is (number_of o) t ≡ true
-due_of o t e = ap (λ x. due_is (number_of x) t) e ∙ (let z : (t == t) ≡ true = grind (arith, nat_tests) in z)
+due_of o t e = ap (λ x. due_is (number_of x) t) e ∙ eq-eqb t t refl
 
 pub wakes_same : (w : Wires) (m n : ℕ) (periods : List ℕ) (a b : List (Option ℕ)) → n ≡ m → length b ≡ length a → Wakes w m periods a → Wakes w n periods b
 wakes_same w m n periods a b e f was = record {

@@ -1,5 +1,5 @@
 -- A run goes on from one time at which somebody is due to the next.
-use Rattle.std.proofs.Common.{◌≡◌, ℕ, ◌+◌, ◌-◌, ◌<◌, ◌≤◌, List, [], ◌∷◌, ◌++◌, length, take, drop, zero, suc, sym, ◌∙◌, ap, subst, arith, refl, add-one}
+use Rattle.std.proofs.Common.{◌≡◌, ℕ, ◌+◌, ◌-◌, ◌<◌, ◌≤◌, List, [], ◌∷◌, ◌++◌, length, take, drop, zero, suc, sym, ◌∙◌, ap, subst, arith, refl}
 use Rattle.std.specs.Prelude.{Option, Some, None, Bool, All, option_map}
 use Rattle.std.proofs.Math.Seq.{take-append_seam}
 use Rattle.std.proofs.lemmas.List.{take-append-drop, append_assoc, append-nil}
@@ -16,7 +16,6 @@ use Rattle.tick_law.specs.WorldPlaces.{WorldPlaces}
 use Rattle.tick_law.specs.Pass.{Side, everyone}
 use Rattle.tick_law.specs.Outcomes.{outcome, whats_of, records_to}
 use Rattle.tick_law.specs.SerialLoop.{System, pick, mid, world_at, parts_of, links_of, records_at_time, records_below, stirs_at, end_below}
-use Rattle.tick_law.specs.Verdict.{awake_now, awake_below}
 use Rattle.model_laws.specs.Gaps.{IsSetUp, world_good}
 use Rattle.time_step.specs.Jump.{NoneBelow, Reached, jump_to, end_more}
 use Rattle.time_step.specs.Kept.{IsBoundary}
@@ -132,8 +131,3 @@ module _ {P N : Type 0} where
 
   pub end_then : (r : System P N) (t end new : ℕ) (flag : Bool) → new ≡ pick flag t end → flag ≡ stirs_at r t → end ≡ end_below r t → new ≡ end_below r (t + 1)
   end_then r t end new flag a b c = end_more r t (t + 1) end new flag a b c refl
-
-  pub steps_then : (r : System P N) (t start now new : ℕ) → now ≡ start + awake_below r t → new ≡ now + awake_now r t → new ≡ start + awake_below r (t + 1)
-  steps_then r t start now new a b =
-      let z : awake_below r (t + 1) ≡ awake_below r t + awake_now r t = ap (λ x. awake_below r x) (add-one t) in
-      omega (arith, a, b, z)

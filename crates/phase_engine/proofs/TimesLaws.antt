@@ -1,7 +1,8 @@
 -- The next times of all actors.
 use Rattle.std.proofs.Common.{◌≡◌, ℕ, ◌+◌, ◌-◌, ◌<◌, ◌≤◌, ◌||◌, List, [], ◌∷◌, length, get_or, replicate, zero, suc, sym, ◌∙◌, ap, arith, refl, inl, inr}
-use Rattle.std.specs.Prelude.{Option, Some, None, Bool, true, false, All, slice_set}
+use Rattle.std.specs.Prelude.{Option, Some, None, true, false, All, slice_set}
 use Rattle.std.proofs.lemmas.Bool.{cases_lt, cases_eq}
+use Rattle.std.proofs.Math.Bool.{or-true}
 use Rattle.std.proofs.lemmas.List.{same_lists, get_or-set_same, get_or-set_other, length-replicate, get_or-replicate, get_or_past}
 use Rattle.std.proofs.lemmas.List.Elements.{All-get_or}
 use Rattle.std.proofs.lemmas.Option.{none-some}
@@ -48,14 +49,10 @@ exists_none : (f : ℕ → Option ℕ) (n : ℕ) → ((i : ℕ) → i < n → f 
 exists_none f zero none = refl
 exists_none f (suc n) none = ap (λ b. b || is_there (f n)) (exists_none f n (λ i b. none i (omega arith))) ∙ ap is_there (none n (omega arith))
 
-or_true : (a : Bool) → (a || true) ≡ true
-or_true true = refl
-or_true false = refl
-
 exists_some : (f : ℕ → Option ℕ) (n i t : ℕ) → i < n → f i ≡ Some t → exists_to f n ≡ true
 exists_some f zero i t b e = absurd (omega arith)
 exists_some f (suc n) i t b e = elim (cases_eq i n) [
-  | inl same ↦ ap (λ k. exists_to f n || is_there (f k)) (sym same) ∙ ap (λ o. exists_to f n || is_there o) e ∙ or_true (exists_to f n)
+  | inl same ↦ ap (λ k. exists_to f n || is_there (f k)) (sym same) ∙ ap (λ o. exists_to f n || is_there o) e ∙ or-true (exists_to f n)
   | inr ne ↦ ap (λ b. b || is_there (f n)) (exists_some f n i t (omega (arith, b, ne)) e)
 ]
 
@@ -85,7 +82,7 @@ either_some base links i t times long e = elim (cases_lt i (length times)) [
         let z : base + (i - base) ≡ i = omega (arith, link) in
         ap (λ b. exists_to (next_at_place (half_of 0 base times)) base || b)
         (exists_some (next_at_place (half_of base links times)) links (i - base) t.0 b (half_at base links times (i - base) b ∙ ap number_of (ap (time_of times) z ∙ e)))
-        ∙ or_true (exists_to (next_at_place (half_of 0 base times)) base))
+        ∙ or-true (exists_to (next_at_place (half_of 0 base times)) base))
   ])
 ]
 

@@ -37,11 +37,11 @@ pub fn advance_due<P: Actor + Drop, N: Actor + Drop, C: Charter<P, N>, L: Ledger
     ensures steps { steps.new + awake_below (system_of P.machine N.machine C.plan) from ≡ steps.old + awake_below (system_of P.machine N.machine C.plan) upto }
 {
     let mut end = before;
-    let mut t = next_due(&gear.next, base, from, upto, looks);
+    let mut t = next_due(&gear.next, from, upto, looks);
     while t < upto {
         let stirred = one_time::<P, N, C, L, M>(world, gear, base, t, steps, looks);
         end = later(stirred, t, end);
-        t = next_due(&gear.next, base, t + 1, upto, looks);
+        t = next_due(&gear.next, t + 1, upto, looks);
     }
     end
 }

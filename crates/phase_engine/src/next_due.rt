@@ -7,20 +7,14 @@ use sim_base::Steps;
 use std::sync::ledger::Ledger;
 
 /// The first time from `at` at which somebody is due, or the bound where that is no later.
-pub fn next_due<M: Ledger>(
-    next: &NextTimes,
-    base: u32,
-    at: u64,
-    bound: u64,
-    looks: &mut Steps<M>,
-) -> u64
+pub fn next_due<M: Ledger>(next: &NextTimes, at: u64, bound: u64, looks: &mut Steps<M>) -> u64
     requires { at ≤ bound }
     ensures from { at ≤ result }
     ensures within { result ≤ bound }
     ensures none { at < result → (i : ℕ) (t : Time) → time_of next.now i ≡ Some t → result ≤ t.0 }
     ensures due { (result ≡ bound) ⊎ ((i : ℕ) × (t : Time) × (time_of next.now i ≡ Some t) × (t.0 ≤ result)) }
 {
-    match next.first(base, looks) {
+    match next.first(0, looks) {
         Some((time, _)) => time.0.max(at).min(bound),
         None => bound,
     }

@@ -63,7 +63,7 @@ pub fn run_due<P: Actor + Drop, N: Actor + Drop, C: Charter<P, N>, K: Sink, L: L
     ensures telling { is_some (K.told sink.new) ≡ is_some (K.told sink.old) }
 {
     let mut end = before;
-    let mut t = next_due(&gear.next, base, from, until + 1, looks);
+    let mut t = next_due(&gear.next, from, until + 1, looks);
     while t <= until {
         let stirred = one_time::<P, N, C, L, M>(world, gear, base, t, steps, looks);
         end = later(stirred, t, end);
@@ -77,7 +77,7 @@ pub fn run_due<P: Actor + Drop, N: Actor + Drop, C: Charter<P, N>, K: Sink, L: L
                 };
             }
         }
-        t = next_due(&gear.next, base, t + 1, until + 1, looks);
+        t = next_due(&gear.next, t + 1, until + 1, looks);
     }
     Reached {
         upto: until + 1,
