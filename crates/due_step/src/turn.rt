@@ -7,6 +7,7 @@ ghost use Rattle.tick_law.specs.Pass.{gather};
 ghost use Rattle.tick_law.specs.Outcomes.{whats_of, flag_of, charge_of};
 ghost use Rattle.sim_base.specs.Edge.{edge_from};
 ghost use Rattle.tick_law.specs.NextTime.{woken};
+ghost use Rattle.event_queue.specs.NextTimes.{time_of};
 ghost use Rattle.tick_law.specs.Course.{any_of};
 ghost use Rattle.model_laws.specs.Pass.{act_at, side_of, side_places};
 ghost use Rattle.model_laws.specs.Outcome.{outcome_at};
@@ -27,7 +28,7 @@ use time_step::act::act;
 use time_step::scratch::Scratch;
 use time_step::wake::Face;
 
-/// The actor in place `no` of one side steps at `t`, where it has an edge there, its next time is noted, and the other owners of
+/// The actor in place `no` of one side, whose next time is `t`, steps, its next time is noted, and the other owners of
 /// its ports are woken where it changed their faces. `base` is the first actor of its side among all, and `first` that of the
 /// other side.
 pub fn turn<S: Actor + Drop, L: Ledger, M: Ledger>(
@@ -53,6 +54,7 @@ pub fn turn<S: Actor + Drop, L: Ledger, M: Ledger>(
     requires actors { IsFull actors.old }
     requires fits { HasRoom S S.machine wiring.now (side_of actors.old ports.old) hand.old.room recs.old.room }
     requires here { no < length actors.old }
+    requires due { time_of next.old (base + no) ≡ Some (record { 0 = t }) }
     requires none { hand.old.ports ≡ [] }
     requires time { t ≤ 500000000000 }
     requires from { from ≤ 501000000000 }

@@ -1,5 +1,5 @@
 -- A run goes on from one time at which somebody is due to the next.
-use Rattle.std.proofs.Common.{◌≡◌, ℕ, ◌+◌, ◌-◌, ◌<◌, ◌≤◌, List, [], ◌∷◌, ◌++◌, length, take, drop, zero, suc, sym, ◌∙◌, ap, subst, arith, refl}
+use Rattle.std.proofs.Common.{◌≡◌, ℕ, ◌+◌, ◌-◌, ◌<◌, ◌≤◌, ◌⊎◌, inl, inr, List, [], ◌∷◌, ◌++◌, length, take, drop, zero, suc, sym, ◌∙◌, ap, subst, arith, refl}
 use Rattle.std.specs.Prelude.{Option, Some, None, Bool, All, option_map}
 use Rattle.std.proofs.Math.Seq.{take-append_seam}
 use Rattle.std.proofs.lemmas.List.{take-append-drop, append_assoc, append-nil}
@@ -24,6 +24,7 @@ use Rattle.due_step.proofs.HalfLaws.{half_at, length-half}
 use Rattle.trace_out.specs.Names.{NamesView}
 use Rattle.trace_out.specs.Lines.{text_of, lines_of}
 use Rattle.trace_out.proofs.Writing.{Got-more}
+use Rattle.phase_engine.specs.SleepGear.{IsDueBy}
 use Rattle.phase_engine.specs.Between.{records_over, records_between}
 
 tail_same : {A : Type 0} (x y : A) (xs ys : List A) → x ∷ xs ≡ y ∷ ys → xs ≡ ys
@@ -32,6 +33,11 @@ tail_same x y xs ys e = cc
 append-same : {A : Type 0} (a b c : List A) → a ++ b ≡ a ++ c → b ≡ c
 append-same [] b c e = e
 append-same (x ∷ xs) b c e = append-same xs b c (tail_same x x (xs ++ b) (xs ++ c) e)
+
+-- below the bound somebody is due
+pub is_due : (times : List (Option Time)) (t bound : ℕ) → t < bound → (t ≡ bound) ⊎ IsDueBy times t → IsDueBy times t
+is_due times t bound l (inl e) = absurd (omega (arith, l, e))
+is_due times t bound l (inr due) = due
 
 later_than : (o : Option Time) (e at : ℕ) → ((t : Time) → o ≡ Some t → e ≤ t.0) → number_of o ≡ Some at → e ≤ at
 later_than None e at none f = absurd (cc)

@@ -1,6 +1,7 @@
 -- What is true of the gear of a sleeping run.
 use Rattle.std.specs.Prelude.{◌≡◌, ℕ, ◌+◌, ◌*◌, ◌≤◌, [], List, length, Option, Some, replicate}
 use Rattle.sim_base.specs.declared.time.Time.{Time}
+use Rattle.event_queue.specs.NextTimes.{time_of}
 use Rattle.tick_law.specs.Machine.{Machine}
 use Rattle.tick_law.specs.WorldPlaces.{WorldPlaces}
 use Rattle.tick_law.specs.PlanView.{PlanView, part_wires, link_wires, system_of}
@@ -9,6 +10,10 @@ use Rattle.time_step.specs.Gear.{Fitted}
 use Rattle.time_step.specs.Kept.{IsBoundary}
 use Rattle.due_step.specs.Half.{half_of}
 use Rattle.phase_engine.specs.declared.sleep_gear.SleepGear.{SleepGear}
+
+-- somebody's next time is not behind t
+abbrev pub IsDueBy : List (Option Time) → ℕ → Type 0
+IsDueBy times t = (i : ℕ) × (at : Time) × (time_of times i ≡ Some at) × (at.0 ≤ t)
 
 module _ {P N : Type 0} where
   -- at every boundary

@@ -1,6 +1,7 @@
 ghost use Rattle.std.specs.Prelude.{◌≡◌, ℕ, ◌<◌, ◌≤◌, ◌⊎◌, Some};
 ghost use Rattle.sim_base.specs.declared.time.Time.{Time};
 ghost use Rattle.event_queue.specs.NextTimes.{time_of};
+ghost use Rattle.phase_engine.specs.SleepGear.{IsDueBy};
 
 use event_queue::NextTimes;
 use sim_base::Steps;
@@ -12,7 +13,7 @@ pub fn next_due<M: Ledger>(next: &NextTimes, at: u64, bound: u64, looks: &mut St
     ensures from { at ≤ result }
     ensures within { result ≤ bound }
     ensures none { at < result → (i : ℕ) (t : Time) → time_of next.now i ≡ Some t → result ≤ t.0 }
-    ensures due { (result ≡ bound) ⊎ ((i : ℕ) × (t : Time) × (time_of next.now i ≡ Some t) × (t.0 ≤ result)) }
+    ensures due { (result ≡ bound) ⊎ IsDueBy next.now result }
 {
     match next.first(0, looks) {
         Some((time, _)) => time.0.max(at).min(bound),

@@ -2,7 +2,7 @@ ghost use Rattle.std.specs.Prelude.{◌≡◌, ◌+◌, ◌≤◌, length};
 ghost use Rattle.tick_law.specs.SerialLoop.{records_at_time, stirs_at};
 ghost use Rattle.tick_law.specs.PlanView.{system_of};
 ghost use Rattle.tick_law.specs.Verdict.{awake_now};
-ghost use Rattle.phase_engine.specs.SleepGear.{IsSleepGear, IsAt};
+ghost use Rattle.phase_engine.specs.SleepGear.{IsSleepGear, IsDueBy, IsAt};
 
 use crate::sleep_gear::SleepGear;
 use due_step::time::due_time;
@@ -10,7 +10,7 @@ use sim_base::Steps;
 use std::sync::ledger::Ledger;
 use tick_law::{Actor, Charter, World};
 
-/// Time `t`: those whose next time it is step. The list of records has those of this time alone.
+/// Time `t`, at which somebody is due: those whose next time it is step. The list of records has those of this time alone.
 pub fn one_time<P: Actor + Drop, N: Actor + Drop, C: Charter<P, N>, L: Ledger, M: Ledger>(
     world: &mut World<P, N>,
     gear: &mut SleepGear,
@@ -21,6 +21,7 @@ pub fn one_time<P: Actor + Drop, N: Actor + Drop, C: Charter<P, N>, L: Ledger, M
 ) -> bool
     requires gear { IsSleepGear P.machine N.machine P.valid N.valid C.plan gear.old }
     requires at { IsAt P.machine N.machine C.plan t world.old gear.old.next }
+    requires due { IsDueBy gear.old.next t }
     requires base { base ≡ length C.plan.parts }
     requires time { t ≤ 500000000000 }
 

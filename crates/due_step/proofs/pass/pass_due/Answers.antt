@@ -2,6 +2,7 @@ use Rattle.std.proofs.Common.{◌≡◌, ◌+◌, ◌-◌, ◌*◌, ◌<◌, ◌
 use Rattle.std.specs.Prelude.{false, slice_index_or, slice_get, slice_set}
 use Rattle.tick_law.specs.WorldPlaces.{SidePlaces, somes}
 use Rattle.sim_base.specs.Edge.{edge_from}
+use Rattle.event_queue.specs.NextTimes.{time_of}
 use Rattle.tick_law.specs.Laws.{Lawful}
 use Rattle.model_laws.specs.Places.{InHand}
 use Rattle.model_laws.specs.Pass.{side_of, side_places}
@@ -66,6 +67,12 @@ turn-flag-requires-clause-here g c =
     let hi = c.in-Some.ensures.least.below_end in
     let here : c.in-Some.who.0 - c.args.base < length c.args.actors.now = omega (arith, lo, hi, c.loop-who.invariant.from, c.len.ensures) in
     subst (λ n. c.in-Some.who.0 - c.args.base < n) (sym able.long_actors) here
+
+pub turn-flag-requires-clause-due : goal.turn-flag-requires-clause-due
+turn-flag-requires-clause-due g c =
+    let lo = c.in-Some.ensures.least.not_below_from in
+    let z : c.args.base + (c.in-Some.who.0 - c.args.base) ≡ c.in-Some.who.0 = omega (arith, lo, c.loop-who.invariant.from) in
+    ap (time_of c.loop-who.next) z ∙ c.in-Some.ensures.least.due
 
 pub turn-flag-requires-clause-room : goal.turn-flag-requires-clause-room
 turn-flag-requires-clause-room g c =

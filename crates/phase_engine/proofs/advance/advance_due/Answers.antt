@@ -1,7 +1,7 @@
 use Rattle.std.proofs.Common.{◌≡◌, ◌+◌, length, sym, ◌∙◌, ap, arith, add-one}
 use Rattle.tick_law.specs.PlanView.{system_of}
 use Rattle.tick_law.specs.Verdict.{awake_now, awake_below}
-use Rattle.phase_engine.proofs.RunLaws.{to_due, end_then}
+use Rattle.phase_engine.proofs.RunLaws.{is_due, to_due, end_then}
 use Rattle.phase_engine.proofs.advance.advance_due.Goals as goal
 
 pub loop-t-init : goal.loop-t-init
@@ -13,6 +13,7 @@ loop-t-init g c =
       gear = c.requires.gear;
       at = reached.boundary;
       within = c.next_due-t.ensures.within;
+      due = λ l. is_due c.args.gear.now.next c.next_due-t.result c.args.upto l c.next_due-t.ensures.due;
       end = c.requires.before ∙ sym reached.ending;
       steps = (let e = reached.steps in omega (arith, e));
     }
@@ -32,6 +33,7 @@ loop-t-preserved g c =
       gear = c.one_time-stirred.ensures.gear;
       at = reached.boundary;
       within = due.ensures.within;
+      due = λ l. is_due now.gear.next due.result c.args.upto l due.ensures.due;
       end = end ∙ sym reached.ending;
       steps = (let e = reached.steps in omega (arith, e, z, inv.steps, c.one_time-stirred.ensures.steps));
     }

@@ -7,7 +7,7 @@ use Rattle.sim_io.specs.Sink.{Got, GotPrefix}
 use Rattle.port_msg.specs.declared.records.Record.{Record}
 use Rattle.std.specs.Prelude.{All, option_map, ◌++◌, ◌<◌}
 use Rattle.phase_engine.specs.Between.{records_between}
-use Rattle.phase_engine.proofs.RunLaws.{nothing_more, to_due, known_actors, records_jump, none_between, lines_then, prefix_then, end_then, rose_later}
+use Rattle.phase_engine.proofs.RunLaws.{is_due, nothing_more, to_due, known_actors, records_jump, none_between, lines_then, prefix_then, end_then, rose_later}
 use Rattle.phase_engine.proofs.run.run_due.Goals as goal
 
 pub loop-t-init : goal.loop-t-init
@@ -20,6 +20,7 @@ loop-t-init g c =
       gear = c.requires.gear;
       at = reached.boundary;
       within = c.next_due-t.ensures.within;
+      due = λ l. is_due c.args.gear.now.next c.next_due-t.result (c.args.until + 1) (omega (arith, l)) c.next_due-t.ensures.due;
       end = c.requires.before ∙ sym reached.ending;
       onward = c.next_due-t.ensures.from;
       steps = (let e = reached.steps in omega (arith, e));
@@ -63,6 +64,7 @@ loop-t-preserved g c =
       gear = c.one_time-stirred.ensures.gear;
       at = reached.boundary;
       within = due.ensures.within;
+      due = λ l. is_due now.gear.next due.result (c.args.until + 1) (omega (arith, l)) due.ensures.due;
       end = end ∙ sym reached.ending;
       onward = (let f = due.ensures.from in omega (arith, f, inv.onward));
       steps = (let e = reached.steps in omega (arith, e, z, inv.steps, c.one_time-stirred.ensures.steps));

@@ -6,7 +6,7 @@ use Rattle.tick_law.specs.PlanView.{system_of}
 use Rattle.tick_law.specs.Verdict.{awake_below}
 use Rattle.trace_out.specs.Lines.{lines_of}
 use Rattle.phase_engine.specs.Between.{records_between}
-use Rattle.phase_engine.specs.SleepGear.{IsSleepGear, IsAt}
+use Rattle.phase_engine.specs.SleepGear.{IsSleepGear, IsDueBy, IsAt}
 use Rattle.phase_engine.proofs.run.run_due.Given as goal
 
 abbrev pub invariant-loop-t : goal.invariant-loop-t
@@ -19,6 +19,7 @@ invariant-loop-t g l =
       gear : IsSleepGear mp mn g.P.Actor.valid g.N.Actor.valid plan l.gear;
       at : IsAt mp mn plan l.t l.world l.gear.next;
       within : l.t ≤ l.until + 1;
+      due : l.t ≤ l.until → IsDueBy l.gear.next l.t;
       end : l.end ≡ end_below r l.t;
       onward : l.from ≤ l.t;
       steps : l.steps + awake_below r l.from ≡ l.fn.steps + awake_below r l.t;
