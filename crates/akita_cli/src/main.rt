@@ -1,41 +1,10 @@
-//! The program: its words, standard output and standard error are handed to one call, and it ends with the status that this
-//! call answers.
+//! The program.
 #![tactic(auto)]
 
-ghost use Rattle.std.specs.Prelude.{◌≡◌, ◌<◌};
-
-use sim_base::Steps;
-use sim_io::{MemFiles, Sink, Stream};
-use std::alloc::Global;
-use std::marker::Brand;
+use host_run::run_on_host;
+use std::io;
 use std::process::ExitCode;
-use std::sync::ledger::{Blank, Ledger};
-use std::{env, io};
-use top_run::{Status, plain};
-
-fn run<L: Ledger, K: Sink, E: Sink>(
-    alloc: Global,
-    blank: Blank,
-    words: &[String],
-    out: &mut K,
-    err: &mut E,
-) -> Status
-    requires name { blank.name ≡ L.name }
-    requires parts { blank.parts ≡ L.parts }
-    requires some { 0 < blank.parts }
-{
-    let mut steps: Steps<L> = Steps::open(blank);
-    let mut files = MemFiles::of(Vec::new(alloc), Vec::new(alloc));
-    plain(alloc, words, &mut files, out, err, &mut steps).unwrap()
-}
 
 fn main(rt: HostRuntime) -> io::Result<ExitCode> {
-    let alloc = rt.alloc();
-    let mut args = env::args(&rt)?;
-    args.next();
-    let words: Vec<String> = args.collect(alloc)?;
-    let mut out = Stream::of(rt.stdout());
-    let mut err = Stream::of(rt.stderr());
-    let status = run::<Brand, _, _>(alloc, Blank::new(1), &words, &mut out, &mut err);
-    Ok(ExitCode::from(status.0))
+    run_on_host(rt)
 }

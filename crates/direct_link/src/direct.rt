@@ -3,7 +3,8 @@ ghost use Rattle.direct_link.specs.Direct.{direct, IsDirect, opening};
 
 use crate::port_index::PortIndex;
 use crate::serving::serve_all;
-use port_msg::{Port, RecList};
+use port_msg::RecList;
+use port_row::Ports;
 use sim_base::{ActorNo, OutOfMemory, PortList, Steps};
 use std::alloc::Global;
 use std::marker::Model;
@@ -83,7 +84,7 @@ impl Actor for Direct {
 
     fn tick<L: Ledger>(
         &mut self,
-        ports: &mut [Port],
+        ports: &mut Ports,
         _cycle: u64,
         recs: &mut RecList,
         steps: &mut Steps<L>,

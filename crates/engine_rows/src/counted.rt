@@ -1,6 +1,7 @@
 ghost use Rattle.std.specs.Prelude.{◌≡◌, IfOk};
 
-use port_msg::{Port, RecList};
+use port_msg::RecList;
+use port_row::Ports;
 use sim_base::{OutOfMemory, Steps};
 use std::alloc::Global;
 use std::marker::Model;
@@ -46,7 +47,7 @@ impl<S: Actor + Drop> Actor for Counted<S> {
 
     fn tick<L: Ledger>(
         &mut self,
-        ports: &mut [Port],
+        ports: &mut Ports,
         cycle: u64,
         recs: &mut RecList,
         steps: &mut Steps<L>,

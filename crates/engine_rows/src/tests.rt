@@ -1,6 +1,7 @@
 ghost use Rattle.std.specs.Prelude.{◌≡◌, ◌<◌, ◌≤◌, [], ◌∷◌, IfOk};
 ghost use Rattle.part_kind.specs.Part.{part};
 ghost use Rattle.part_kind.specs.LinkKind.{link};
+ghost use Rattle.tick_law.specs.PlanView.{opening};
 
 use crate::{Counted, counted_plan, pair_plan};
 use addr_map::{Range, Ranges, Targets};
@@ -8,8 +9,9 @@ use direct_link::{Direct, DirectText};
 use mem_ctrl::{Memory, MemoryText};
 use part_kind::{LinkKind, Part};
 use phase_engine::{Engine, RunFault, run_plan};
+use port_rows::World;
 use ring_plan::ring_plan;
-use serial_loop::Ending;
+use run_gear::Ending;
 use sim_base::{ActorNo, Body, LinkNo, Mode, Name, OutOfMemory, PortList, PortNo, Steps, Time};
 use sim_io::MemSink;
 use std::alloc::Global;
@@ -17,7 +19,7 @@ use std::marker::Brand;
 use std::sync::Arc;
 use std::sync::atomic::{AtomicU64, Ordering};
 use std::sync::ledger::{Blank, Ledger};
-use tick_law::{Charter, Plan, Verdict, World};
+use tick_law::{Charter, Plan, Verdict};
 use traffic_parts::{Agent, AgentText};
 
 /// How a run ended, and how many ticks its actors had made by then.
@@ -53,9 +55,6 @@ fn run(alloc: Global, plan: Plan<Part, LinkKind>) -> Result<Ran, RunFault> {
 
 /// How many messages the first link has moved, or 0 where there is no link in its place.
 fn moved(world: &World<Counted<Part>, Counted<LinkKind>>) -> u64 {
-    if world.links() == 0 {
-        return 0;
-    }
     match world.link(LinkNo(0)).map(|link| link.inner()) {
         Some(LinkKind::Direct(link)) => link.moved(),
         None => 0,
@@ -273,6 +272,7 @@ fn two_stops<C: Charter<Counted<Part>, Counted<LinkKind>>, L: Ledger>(
     second: Time,
 ) -> Result<(Stop, Stop), OutOfMemory>
     requires plan { plan ≡ C.plan }
+    requires start { C.start ≡ opening C.plan }
     requires order { first.0 ≤ second.0 }
     requires within { second.0 ≤ plan.until }
     requires name { blank.name ≡ L.name }

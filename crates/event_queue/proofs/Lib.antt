@@ -5,3 +5,8 @@ pub mod HeapLemmas
 pub mod PlacesLemmas
 pub mod SiftLemmas
 pub mod TimesLemmas
+pub mod MarkLemmas
+pub mod MergedLemmas
+pub mod KeyLemmas
+pub mod OneTimeLemmas
+pub mod WalkLemmas

@@ -1,19 +1,21 @@
 -- The list of optional times that a row and the places of its actors show.
-use Rattle.std.proofs.Common.{◌≡◌, ℕ, ◌+◌, ◌-◌, ◌*◌, ◌^◌, ◌<◌, ◌≤◌, ◌/◌, ◌↔◌, zero, suc, List, length, get_or, set, map, replicate, Option, Some, None, All, cond, inl, inr, refl, ap, sym, ◌∙◌, arith}
+use Rattle.std.proofs.Common.{◌≡◌, ℕ, ◌+◌, ◌-◌, ◌*◌, ◌^◌, ◌<◌, ◌≤◌, ◌/◌, zero, suc, List, length, get_or, set, map, replicate, Option, Some, None, Bool, true, false, cond, inl, inr, refl, ap, sym, ◌∙◌, arith}
 use Rattle.std.proofs.lemmas.Bool.{cases_lt, cases_eq}
 use Rattle.std.proofs.lemmas.List.{same_lists, get_or-set_same, get_or-set_other, length-set, length-replicate, get_or-replicate, get_or_past, get_or-map, length-map}
 use Rattle.std.proofs.lemmas.List.Sums.{sum-map}
 use Rattle.std.proofs.lemmas.List.FromFn.{length-map-range_with_len, get_or-map-range_with_len}
 use Rattle.std.proofs.lemmas.Option.{none-some, same_Some}
-use Rattle.sim_base.specs.declared.phase.Phase.{Phase}
-use Rattle.sim_base.specs.declared.phase.Phase.TheVariants.{Primary}
 use Rattle.sim_base.specs.declared.time.Time.{Time}
 use Rattle.event_queue.specs.declared.key.Key.{Key}
 use Rattle.event_queue.specs.KeyRow.{Row, pair_at}
 use Rattle.event_queue.specs.Heap.{rank_at, IsHeap}
-use Rattle.event_queue.specs.NextTimes.{time_of, IsFirst, NoneDue, IsLeastDue, is_by, count_due_by}
+use Rattle.event_queue.specs.NextTimes.{time_of, NoneDue, IsLeastDue, is_by, count_due_by}
+use Rattle.event_queue.specs.Merged.{IsLeastKey, NoTimes}
 use Rattle.event_queue.specs.Due.{tree_sum, one_by, one_due, IsDue, AreActors}
 use Rattle.event_queue.proofs.CountLemmas.{sum_below-le-sum, who_at, who_apart}
+use Rattle.bit_set.specs.Bits.{is_in}
+use Rattle.event_queue.specs.Mark.{one_left}
+use Rattle.event_queue.proofs.MarkLemmas.{one_left-here}
 use Rattle.event_queue.proofs.DueLemmas.{whole_tree, levels_enough, one_due-here, one_by-past, one_by-le, sum_below-at, sum_below-past}
 use Rattle.event_queue.specs.Places.{time_at, times_of, IsPlaced, SetsTime, IsIndexed}
 use Rattle.event_queue.proofs.PlacesLemmas.{Owns, time_at-owned, time_at-none, owned_or_none}
@@ -72,33 +74,25 @@ root_is_least pairs heap (suc fuel) p le within = elim (cases_eq p 0) [
       omega (arith, up, heap.ordered ((p - 1) / 2) p (omega arith) (omega arith) within))
 ]
 
-pub none_in_empty : (pairs : List Key) (places : List ℕ) → length pairs ≡ 0 → All (λ time. time ≡ None) (times_of pairs places)
-none_in_empty pairs places empty k d within =
-    get_or-times_of pairs places k d (omega (arith, length-times_of pairs places, within))
-    ∙ time_at-none pairs places k (λ p own. absurd (omega (arith, own.0, empty)))
+pub none_in_empty : (pairs : List Key) (places : List ℕ) → IsPlaced pairs places → length pairs ≡ 0 → NoTimes (times_of pairs places)
+none_in_empty pairs places placed empty i = elim (cases_lt i (length places)) [
+  | inl within ↦ get_or-times_of pairs places i None within ∙ time_at-none pairs places i (λ p own. absurd (omega (arith, own.0, empty)))
+  | inr past ↦ get_or_past (times_of pairs places) i None (omega (arith, length-times_of pairs places, past))
+]
 
-pub some_in_full : (pairs : List Key) (places : List ℕ) → IsPlaced pairs places → 0 < length pairs → All (λ time. time ≡ None) (times_of pairs places) → ⊥
-some_in_full pairs places placed some none =
-    let who = (pair_at pairs 0).who.0 in
-    let known : who < length (times_of pairs places) = omega (arith, length-times_of pairs places, placed.who_within 0 some) in
-    none-some _ (sym (none who None known) ∙ time_of-owned pairs places 0 placed some)
-
--- the root has the first time
-pub IsFirst-root : (row : Row) (places : List ℕ) (parts : ℕ) (phase : Phase) → IsIndexed row places → 0 < length row.pairs → ((phase ≡ Primary) ↔ ((pair_at row.pairs 0).who.0 < parts)) → IsFirst (times_of row.pairs places) parts ((pair_at row.pairs 0).time, phase)
-IsFirst-root row places parts phase index some is =
+-- the root is the least pair
+pub IsLeastKey-root : (row : Row) (places : List ℕ) → IsIndexed row places → 0 < length row.pairs → IsLeastKey (times_of row.pairs places) (pair_at row.pairs 0)
+IsLeastKey-root row places index some =
     let pairs = row.pairs in
     let root = pair_at pairs 0 in
     record {
-      there = (root.who.0, time_of-owned pairs places 0 index.placed some);
+      there = time_of-owned pairs places 0 index.placed some;
       least = λ i t has.
           let own = owner_of pairs places i t index.placed has in
           omega (arith, root_is_least pairs index.heap own.0 own.0 (omega arith) own.1.0, ap (λ (u : Time). u.0) own.2, index.placed.who_within own.0 own.1.0, index.few);
-      phase = (
-        λ e. (root.who.0, is.0 e, time_of-owned pairs places 0 index.placed some),
-        λ found.
-            let own = owner_of pairs places found.0 root.time index.placed found.2 in
-            is.1 (omega (arith, root_is_least pairs index.heap own.0 own.0 (omega arith) own.1.0, ap (λ (u : Time). u.0) own.2, own.1.1, found.1)),
-      );
+      lowest = λ i has.
+          let own = owner_of pairs places i root.time index.placed has in
+          omega (arith, root_is_least pairs index.heap own.0 own.0 (omega arith) own.1.0, ap (λ (u : Time). u.0) own.2, own.1.1);
     }
 
 pub actors_of : (row : Row) (places : List ℕ) → IsIndexed row places → AreActors row.pairs
@@ -151,3 +145,27 @@ tree_sum-le-count row places t index =
     ))
     (who_apart pairs places index.placed) in
     omega (arith, all.1, short, le, sum-map f times)
+
+-- no actor that is due was left unmarked
+pub marked-from_tree : (row : Row) (places : List ℕ) (t : Time) (from below : ℕ) (due : List Bool) → IsIndexed row places → ((levels : ℕ) → length row.pairs < (0 + 1) * 2 ^ levels → tree_sum (one_left row.pairs t from below due) levels 0 ≡ 0) → (i : ℕ) → from + i < below → time_of (times_of row.pairs places) (from + i) ≡ Some t → is_in due i ≡ true
+marked-from_tree row places t from below due index none i b has = at (is_in due i) refl
+  where
+    at : (x : Bool) → is_in due i ≡ x → is_in due i ≡ true
+    at true e = e
+    at false e =
+        let pairs = row.pairs in
+        let m = length pairs in
+        let all = whole_tree (one_left pairs t from below due) m in
+        let enough = levels_enough m in
+        let zero_all : tree_sum (one_left pairs t from below due) m 0 ≡ 0 = none m (omega (arith, enough)) in
+        let own = owner_of pairs places (from + i) t index.placed has in
+        let number : (pair_at pairs own.0).who.0 - from ≡ i = omega (arith, own.1.1) in
+        let here = one_left-here pairs t from below due own.0 own.1.0 (ap (λ (u : Time). u.0) own.2) (omega (arith, own.1.1)) (omega (arith, own.1.1, b)) (ap (is_in due) number ∙ e) in
+        absurd (omega (arith, here, zero_all, all.1, sum_below-at (one_left pairs t from below due) own.0 all.0 (omega (arith, all.2, enough, own.1.0))))
+
+-- an actor of a pair that is due has this time
+pub time_of-due : (row : Row) (places : List ℕ) (t : Time) (from who : ℕ) → IsIndexed row places → IsDue row.pairs t from who → time_of (times_of row.pairs places) who ≡ Some t
+time_of-due row places t from who index due =
+    ap (time_of (times_of row.pairs places)) (sym due.who_is)
+    ∙ time_of-owned row.pairs places due.place index.placed due.within
+    ∙ ap (λ u. Some u) due.time_is

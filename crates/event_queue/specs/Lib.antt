@@ -3,3 +3,5 @@ pub mod Heap
 pub mod KeyRow
 pub mod NextTimes
 pub mod Places
+pub mod Mark
+pub mod Merged

@@ -1,10 +1,12 @@
-ghost use Rattle.std.specs.Prelude.{◌≡◌, ℕ, ◌+◌, ◌*◌, ◌^◌, ◌<◌, ◌≤◌, ◌↔◌, IsTrue, Some, None, length, replicate, slice_set, All, IsNone, IfNone, IfOk, IfSome};
+ghost use Rattle.std.specs.Prelude.{◌≡◌, ℕ, ◌+◌, ◌*◌, ◌^◌, ◌<◌, ◌≤◌, ◌↔◌, true, Some, None, List, Option, length, replicate, slice_set, All, IsNone, IfNone, IfOk, IfSome};
+ghost use Rattle.bit_set.specs.Bits.{is_in};
 ghost use Rattle.event_queue.specs.NextTimes.{time_of, earlier, IsFirst, NoneDue, IsLeastDue, count_due_by};
+ghost use Rattle.event_queue.specs.Merged.{merged, IsApart};
 
-use crate::due::least_due;
-use crate::edits;
-use crate::edits::place_of;
-use crate::key_row::KeyRow;
+use crate::lesser::lesser;
+use crate::time_heap::TimeHeap;
+use crate::two_times::TwoTimes;
+use bit_set::BitSet;
 use sim_base::{ActorNo, OutOfMemory, Phase, Steps, Time};
 use std::alloc::Global;
 use std::marker::Model;
@@ -12,23 +14,23 @@ use std::sync::ledger::Ledger;
 
 /// An optional time for each actor. Its memory is taken in `open`.
 ///
-/// The pairs of a time and an actor are a heap; beside it stands the place of each actor that has a time.
+/// An actor that has a time stands in one of two sets, where many have the same time, or in a heap of the others.
 #[derive(Drop)]
 pub struct NextTimes {
-    row: KeyRow,
-    places: Vec<u32>,
+    near: TwoTimes,
+    heap: TimeHeap,
 }
 
 impl Model for NextTimes {
     ghost use Rattle.std.specs.Prelude.{List, Option};
     ghost use Rattle.sim_base.specs.declared.time.Time.{Time};
-    ghost use Rattle.event_queue.specs.Places.{times_of, IsIndexed};
+    ghost use Rattle.event_queue.specs.Merged.{merged, IsApart};
 
     ghost Value = { List (Option Time) };
 
-    ghost view = { λ n. times_of n.row.pairs n.places.items };
+    ghost view = { λ n. merged n.near n.heap };
 
-    ghost invariant = { λ n. IsIndexed n.row n.places.items };
+    ghost invariant = { λ n. IsApart n.near n.heap };
 }
 
 /// The phase in which an actor ticks, where the actors below `parts` are parts and the others links.
@@ -42,14 +44,36 @@ fn phase_of(who: ActorNo, parts: u32) -> Phase
     }
 }
 
+/// Gives a time to an actor that has none.
+fn put_new<L: Ledger>(
+    near: &mut TwoTimes,
+    heap: &mut TimeHeap,
+    who: ActorNo,
+    t: Time,
+    looks: &mut Steps<L>,
+)
+    requires known { who.0 < length near.old }
+    requires apart { IsApart near.old heap.old }
+    requires not_near { time_of near.old who.0 ≡ None }
+    requires not_far { time_of heap.old who.0 ≡ None }
+
+    ensures apart { IsApart near.new heap.new }
+    ensures put { merged near.new heap.new ≡ slice_set (merged near.old heap.old) who.0 (Some t) }
+    ensures cost { (b : ℕ) → length near.old < 2 ^ b → looks.new ≤ looks.old + 2 * b + 2 }
+{
+    if !near.join(who, t) {
+        heap.set_earlier(who, t, looks);
+    }
+}
+
 impl NextTimes {
     /// No actor has a time.
     pub fn open(alloc: Global, actors: u32) -> Result<NextTimes, OutOfMemory>
         ensures { IfOk result (λ next. next ≡ replicate actors None) }
     {
         Ok(NextTimes {
-            row: KeyRow::open(alloc, actors)?,
-            places: vec![in alloc; 0; actors as usize]?,
+            near: TwoTimes::open(alloc, actors)?,
+            heap: TimeHeap::open(alloc, actors)?,
         })
     }
 
@@ -60,8 +84,10 @@ impl NextTimes {
         ensures value { result ≡ time_of self.now who.0 }
         ensures cost { looks.new ≤ looks.old + 1 }
     {
-        let place = place_of(&self.row, &self.places, who)?;
-        Some(self.row.time(place, looks))
+        match self.near.next_of(who) {
+            Some(t) => Some(t),
+            None => self.heap.next_of(who, looks),
+        }
     }
 
     /// The time of an actor becomes the lesser of `t` and the one that it had.
@@ -71,7 +97,36 @@ impl NextTimes {
         ensures set { self.new ≡ slice_set self.old who.0 (Some (earlier (time_of self.old who.0) t)) }
         ensures cost { (b : ℕ) → length self.old < 2 ^ b → looks.new ≤ looks.old + 2 * b + 2 }
     {
-        edits::set_earlier(&mut self.row, &mut self.places, who, t, looks);
+        match self.near.next_of(who) {
+            Some(u) => {
+                if t.0 < u.0 {
+                    self.near.clear(who);
+                    put_new(&mut self.near, &mut self.heap, who, t, looks);
+                }
+            }
+            None => {
+                if self.heap.has(who) {
+                    self.heap.set_earlier(who, t, looks);
+                } else {
+                    put_new(&mut self.near, &mut self.heap, who, t, looks);
+                }
+            }
+        }
+    }
+
+    /// The time of an actor becomes this one.
+    pub fn set<L: Ledger>(&mut self, who: ActorNo, t: Time, looks: &mut Steps<L>)
+        requires { who.0 < length self.old }
+
+        ensures set { self.new ≡ slice_set self.old who.0 (Some t) }
+        ensures cost { (b : ℕ) → length self.old < 2 ^ b → looks.new ≤ looks.old + 3 * b + 2 }
+    {
+        self.near.clear(who);
+        if self.near.join(who, t) {
+            self.heap.clear(who, looks);
+        } else {
+            self.heap.set(who, t, looks);
+        }
     }
 
     /// An actor has no time.
@@ -81,7 +136,8 @@ impl NextTimes {
         ensures cleared { self.new ≡ slice_set self.old who.0 None }
         ensures cost { (b : ℕ) → length self.old < 2 ^ b → looks.new ≤ looks.old + 3 * b + 2 }
     {
-        edits::clear(&mut self.row, &mut self.places, who, looks);
+        self.near.clear(who);
+        self.heap.clear(who, looks);
     }
 
     /// The least time, with the primary phase where an actor below `parts` has it and the secondary one otherwise. None where no actor has a time.
@@ -90,11 +146,8 @@ impl NextTimes {
         ensures first { IfSome result (λ first. IsFirst self.now parts first) }
         ensures cost { looks.new ≤ looks.old + 1 }
     {
-        if self.row.is_empty() {
-            return None;
-        }
-        let phase = phase_of(self.row.who(0), parts);
-        Some((self.row.time(0, looks), phase))
+        let first = lesser(self.near.first(), self.heap.first(looks))?;
+        Some((first.time, phase_of(first.who, parts)))
     }
 
     /// The least actor, from `from` on and below `below`, whose time is `t`.
@@ -109,14 +162,36 @@ impl NextTimes {
         ensures least { IfSome result (λ who. IsLeastDue self.now t from.0 below.0 who.0) }
         ensures cost { looks.new ≤ looks.old + 2 * count_due_by self.now t + 1 }
     {
-        if self.row.is_empty() {
-            return None;
+        match self.near.due_at(t, from, below) {
+            Some(who) => match self.heap.due_at(t, from, who, looks) {
+                Some(less) => Some(less),
+                None => Some(who),
+            },
+            None => match self.heap.due_at(t, from, below, looks) {
+                Some(who) => Some(who),
+                None => None,
+            },
         }
-        let least = least_due(&self.row, 0, t, from.0, below.0, looks);
-        if least < below.0 {
-            Some(ActorNo(least))
-        } else {
-            None
-        }
+    }
+}
+
+impl NextTimes {
+    /// The set of the actors whose time is `t`, from `from` on and below `below`, each at its number from `from` on.
+    pub fn mark_due<L: Ledger>(
+        &self,
+        t: Time,
+        from: ActorNo,
+        below: ActorNo,
+        due: &mut BitSet,
+        looks: &mut Steps<L>,
+    )
+        requires { from.0 + length due.old ≡ below.0 }
+        ensures long { length due.new ≡ length due.old }
+        ensures marked { (i : ℕ) → i < length due.old → time_of self.now (from.0 + i) ≡ Some t → is_in due.new i ≡ true }
+        ensures only { (i : ℕ) → is_in due.new i ≡ true → time_of self.now (from.0 + i) ≡ Some t }
+        ensures cost { looks.new ≤ looks.old + 2 * count_due_by self.now t + 1 }
+    {
+        self.heap.mark_due(t, from, below, due, looks);
+        self.near.mark_due(t, from, below, due);
     }
 }

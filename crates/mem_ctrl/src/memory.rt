@@ -1,10 +1,12 @@
-ghost use Rattle.std.specs.Prelude.{◌≡◌, ◌+◌, ◌*◌, ◌^◌, ◌<◌, ◌≤◌, length, IfOk, IsTrue};
+ghost use Rattle.std.specs.Prelude.{◌≡◌, ◌+◌, ◌*◌, ◌^◌, ◌<◌, ◌≤◌, length, slice_set, IfOk, IsTrue};
+ghost use Rattle.tick_law.specs.Pass.{port_at};
 ghost use Rattle.port_msg.specs.RecView.{appended_all};
 ghost use Rattle.mem_ctrl.specs.Memory.{IsMemory, opening, byte_at, accepts, filled, read, read_answer, write_answer, answer, stored, serve, take_request, memory};
 
 use crate::waiting::Waiting;
 use circular_buffer::HeapCircularBuffer;
-use port_msg::{DATA_BYTES, Msg, MsgKind, Port, RecList, What};
+use port_msg::{DATA_BYTES, Msg, MsgKind, RecList, What};
+use port_row::Ports;
 use sim_base::{ActorNo, Body, OutOfMemory, PortNo, Steps};
 use std::alloc::Global;
 use std::marker::Model;
@@ -207,13 +209,14 @@ impl Memory {
     }
 
     /// Where the deadline of the queue's head is not above the cycle and there is room, it is served.
-    fn serve(&mut self, port: &mut Port, cycle: u64, recs: &mut RecList) -> bool
-        requires { length recs.old.items < recs.old.room }
+    fn serve(&mut self, ports: &mut Ports, cycle: u64, recs: &mut RecList) -> bool
+        requires port { 0 < length ports.old.ports }
+        requires room { length recs.old.items < recs.old.room }
 
-        ensures state { self.new ≡ (serve self.old port.old cycle).state }
-        ensures port { port.new ≡ (serve self.old port.old cycle).port }
-        ensures records { recs.new ≡ appended_all recs.old (serve self.old port.old cycle).records }
-        ensures flag { result ≡ (serve self.old port.old cycle).flag }
+        ensures state { self.new ≡ (serve self.old (port_at ports.old.ports 0) cycle).state }
+        ensures port { ports.new ≡ record ports.old { ports = slice_set ports.old.ports 0 (serve self.old (port_at ports.old.ports 0) cycle).port } }
+        ensures records { recs.new ≡ appended_all recs.old (serve self.old (port_at ports.old.ports 0) cycle).records }
+        ensures flag { result ≡ (serve self.old (port_at ports.old.ports 0) cycle).flag }
     {
         let Some(first) = self.queue.front().copied() else {
             return false;
@@ -222,7 +225,7 @@ impl Memory {
             return false;
         }
         let answer = self.answer(&first.request);
-        if port.send(answer).is_err() {
+        if ports.send(0, answer).is_err() {
             return false;
         }
         recs.push(What::Send(answer));
@@ -233,16 +236,17 @@ impl Memory {
     }
 
     /// Where the queue is shorter than its depth and a request that it takes is at the head, it is taken and queued.
-    fn take_request(&mut self, port: &mut Port, cycle: u64, recs: &mut RecList) -> bool
+    fn take_request(&mut self, ports: &mut Ports, cycle: u64, recs: &mut RecList) -> bool
+        requires port { 0 < length ports.old.ports }
         requires room { length recs.old.items < recs.old.room }
         requires time { cycle * self.old.period ≤ 501000000000 }
 
-        ensures state { self.new ≡ (take_request cycle self.old port.old).state }
-        ensures port { port.new ≡ (take_request cycle self.old port.old).port }
-        ensures records { recs.new ≡ appended_all recs.old (take_request cycle self.old port.old).records }
-        ensures flag { result ≡ (take_request cycle self.old port.old).flag }
+        ensures state { self.new ≡ (take_request cycle self.old (port_at ports.old.ports 0)).state }
+        ensures port { ports.new ≡ record ports.old { ports = slice_set ports.old.ports 0 (take_request cycle self.old (port_at ports.old.ports 0)).port } }
+        ensures records { recs.new ≡ appended_all recs.old (take_request cycle self.old (port_at ports.old.ports 0)).records }
+        ensures flag { result ≡ (take_request cycle self.old (port_at ports.old.ports 0)).flag }
     {
-        let Some(request) = port.in_head() else {
+        let Some(request) = ports.in_head(0) else {
             return false;
         };
         if !self.accepts(&request) {
@@ -253,7 +257,7 @@ impl Memory {
         if self.queue.try_push_back(waiting).is_err() {
             return false;
         }
-        let _ = port.in_take();
+        let _ = ports.in_take(0);
         recs.push(What::Take(request));
         true
     }
@@ -268,15 +272,14 @@ impl Actor for Memory {
 
     fn tick<L: Ledger>(
         &mut self,
-        ports: &mut [Port],
+        ports: &mut Ports,
         cycle: u64,
         recs: &mut RecList,
         steps: &mut Steps<L>,
     ) -> bool {
         steps.charge();
-        let port = &mut ports[0];
-        let answered = self.serve(port, cycle, recs);
-        let took = self.take_request(port, cycle, recs);
+        let answered = self.serve(ports, cycle, recs);
+        let took = self.take_request(ports, cycle, recs);
         answered || took
     }
 

@@ -1,7 +1,8 @@
 ghost use Rattle.part_kind.specs.LinkKind.{link, IsValid, link_framed, link_stays, link_quiet, link_due_later, link_due_steady, link_period_within};
 
 use direct_link::Direct;
-use port_msg::{Port, RecList};
+use port_msg::RecList;
+use port_row::Ports;
 use sim_base::Steps;
 use std::sync::ledger::Ledger;
 use tick_law::Actor;
@@ -19,7 +20,7 @@ impl Actor for LinkKind {
 
     fn tick<L: Ledger>(
         &mut self,
-        ports: &mut [Port],
+        ports: &mut Ports,
         cycle: u64,
         recs: &mut RecList,
         steps: &mut Steps<L>,

@@ -1,7 +1,8 @@
 ghost use Rattle.part_kind.specs.Part.{part, IsValid, part_framed, part_stays, part_quiet, part_due_later, part_due_steady, part_period_within};
 
 use mem_ctrl::Memory;
-use port_msg::{Port, RecList};
+use port_msg::RecList;
+use port_row::Ports;
 use sim_base::Steps;
 use std::sync::ledger::Ledger;
 use tick_law::Actor;
@@ -22,7 +23,7 @@ impl Actor for Part {
 
     fn tick<L: Ledger>(
         &mut self,
-        ports: &mut [Port],
+        ports: &mut Ports,
         cycle: u64,
         recs: &mut RecList,
         steps: &mut Steps<L>,

@@ -3,6 +3,7 @@ ghost use Rattle.std.specs.Prelude.{◌≡◌, ◌*◌, ◌<◌, ◌≤◌, [], 
 use addr_map::{Range, Ranges, Targets};
 use mem_ctrl::{Memory, MemoryText};
 use port_msg::{DATA_BYTES, Msg, MsgId, MsgKind, Port, RecList, What};
+use port_row::Ports;
 use sim_base::{ActorNo, Body, Mode, OutOfMemory, PartNo, PortNo, Steps};
 use std::alloc::Global;
 use std::marker::Brand;
@@ -70,17 +71,30 @@ fn open_memory(alloc: Global, period: u64, base: u32, latency: u32) -> Result<Me
     Memory::open(alloc, &text)
 }
 
-/// The first thing that an actor with one port does in a step at a cycle.
+/// A row of one port with room for one message.
+fn open_row(alloc: Global) -> Result<Ports, OutOfMemory>
+    ensures { IfOk result (λ row. length row.ports ≡ 1) }
+{
+    let mut ports = Vec::new(alloc);
+    ports.push(Port::open(alloc, 1)?)?;
+    Ports::open(alloc, ports)
+}
+
+/// The first thing that an actor with one port does in a step at a cycle, or None where it has no edge.
 fn first_done<A: Actor, L: Ledger>(
     alloc: Global,
     actor: &mut A,
-    ports: &mut [Port],
-    cycle: u64,
+    ports: &mut Ports,
+    cycle: Option<u64>,
     steps: &mut Steps<L>,
 ) -> Result<Option<What>, OutOfMemory>
-    requires own { length ports.old ≡ A.machine.own actor.old }
-    requires one { length ports.old ≡ 1 }
+    requires own { A.machine.own actor.old ≡ 1 }
+    requires one { length ports.old.ports ≡ 1 }
+    ensures { length ports.new.ports ≡ 1 }
 {
+    let Some(cycle) = cycle else {
+        return Ok(None);
+    };
     if cycle.saturating_mul(actor.period()) > 501_000_000_000 {
         return Ok(None);
     }
@@ -93,73 +107,160 @@ fn first_done<A: Actor, L: Ledger>(
 }
 
 /// Moves a message from one port to another, where there is one and room.
-fn carry(from: &mut Port, to: &mut Port) {
-    if let Some(msg) = from.out_head() {
-        if to.deliver(msg).is_ok() {
-            let _ = from.out_take();
+fn carry(from: &mut Ports, to: &mut Ports)
+    requires from { length from.old.ports ≡ 1 }
+    requires to { length to.old.ports ≡ 1 }
+    ensures from { length from.new.ports ≡ 1 }
+    ensures to { length to.new.ports ≡ 1 }
+{
+    if let Some(msg) = from.out_head(0) {
+        if to.deliver(0, msg).is_ok() {
+            let _ = from.out_take(0);
         }
     }
 }
 
-/// The cycles at which an agent sent and took, and a memory took and answered.
+/// The times at which an actor sent and took.
 #[derive(Drop)]
-struct Timeline {
+struct Times {
     sent: Vec<u64>,
-    answers: Vec<u64>,
     taken: Vec<u64>,
-    served: Vec<u64>,
+}
+
+impl Times {
+    fn note(&mut self, time: u64, done: Option<What>) -> Result<(), OutOfMemory> {
+        match done {
+            Some(What::Send(_)) => self.sent.push(time)?,
+            Some(What::Take(_)) => self.taken.push(time)?,
+            _ => {}
+        }
+        Ok(())
+    }
+}
+
+/// An agent and a memory, each with its port, and their times.
+#[derive(Drop)]
+struct Pair {
+    agent: Agent,
+    io: Ports,
+    agent_times: Times,
+    memory: Memory,
+    top: Ports,
+    memory_times: Times,
+}
+
+fn no_times(alloc: Global) -> Times {
+    Times {
+        sent: Vec::new(alloc),
+        taken: Vec::new(alloc),
+    }
+}
+
+/// The cycle of a clock that has an edge at each of so many times, or None between its edges.
+fn cycle_at(time: u64, every: u64) -> Option<u64>
+    requires { 0 < every }
+{
+    if time % every == 0 {
+        Some(time / every)
+    } else {
+        None
+    }
+}
+
+impl Pair {
+    fn open(alloc: Global, agent: Agent, memory: Memory) -> Result<Pair, OutOfMemory>
+        ensures io { IfOk result (λ pair. length pair.io.ports ≡ 1) }
+        ensures top { IfOk result (λ pair. length pair.top.ports ≡ 1) }
+    {
+        let io = open_row(alloc)?;
+        let top = open_row(alloc)?;
+        Ok(Pair {
+            agent,
+            io,
+            agent_times: no_times(alloc),
+            memory,
+            top,
+            memory_times: no_times(alloc),
+        })
+    }
+
+    fn step_agent<L: Ledger>(
+        &mut self,
+        alloc: Global,
+        time: u64,
+        steps: &mut Steps<L>,
+    ) -> Result<(), OutOfMemory>
+        requires { length self.old.io.ports ≡ 1 }
+        ensures io { length self.new.io.ports ≡ 1 }
+        ensures top { self.new.top ≡ self.old.top }
+    {
+        let done = first_done(alloc, &mut self.agent, &mut self.io, Some(time), steps)?;
+        self.agent_times.note(time, done)
+    }
+
+    fn step_memory<L: Ledger>(
+        &mut self,
+        alloc: Global,
+        time: u64,
+        every: u64,
+        steps: &mut Steps<L>,
+    ) -> Result<(), OutOfMemory>
+        requires top { length self.old.top.ports ≡ 1 }
+        requires every { 0 < every }
+        ensures top { length self.new.top.ports ≡ 1 }
+        ensures io { self.new.io ≡ self.old.io }
+    {
+        let cycle = cycle_at(time, every);
+        let done = first_done(alloc, &mut self.memory, &mut self.top, cycle, steps)?;
+        self.memory_times.note(time, done)
+    }
+
+    /// Carries a message from each port to the other.
+    fn carry_both(&mut self)
+        requires io { length self.old.io.ports ≡ 1 }
+        requires top { length self.old.top.ports ≡ 1 }
+        ensures io { length self.new.io.ports ≡ 1 }
+        ensures top { length self.new.top.ports ≡ 1 }
+    {
+        carry(&mut self.io, &mut self.top);
+        carry(&mut self.top, &mut self.io);
+    }
 }
 
 /// Steps an agent at each time and a memory at each tenth or each, and carries messages after both.
-fn times<L: Ledger>(
+fn run_both<L: Ledger>(
     alloc: Global,
     blank: Blank,
-    agent: &mut Agent,
-    memory: &mut Memory,
+    pair: &mut Pair,
     every: u64,
     end: u64,
-) -> Result<Timeline, OutOfMemory>
+) -> Result<(), OutOfMemory>
     requires name { blank.name ≡ L.name }
     requires parts { blank.parts ≡ L.parts }
     requires some { 0 < blank.parts }
     requires every { 0 < every }
+    requires io { length pair.old.io.ports ≡ 1 }
+    requires top { length pair.old.top.ports ≡ 1 }
 {
     let mut steps = Steps::<L>::open(blank);
-    let mut io = [Port::open(alloc, 1)?];
-    let mut top = [Port::open(alloc, 1)?];
-    let mut times = Timeline {
-        sent: Vec::new(alloc),
-        answers: Vec::new(alloc),
-        taken: Vec::new(alloc),
-        served: Vec::new(alloc),
-    };
     for time in 0..end {
-        match first_done(alloc, agent, &mut io, time, &mut steps)? {
-            Some(What::Send(_)) => times.sent.push(time)?,
-            Some(What::Take(_)) => times.answers.push(time)?,
-            _ => {}
-        }
-        if time % every == 0 {
-            match first_done(alloc, memory, &mut top, time / every, &mut steps)? {
-                Some(What::Send(_)) => times.served.push(time)?,
-                Some(What::Take(_)) => times.taken.push(time)?,
-                _ => {}
-            }
-        }
-        carry(&mut io[0], &mut top[0]);
-        carry(&mut top[0], &mut io[0]);
+        pair.step_agent(alloc, time, &mut steps)?;
+        pair.step_memory(alloc, time, every, &mut steps)?;
+        pair.carry_both();
     }
-    Ok(times)
+    Ok(())
 }
 
 #[test]
 fn an_agent_waits_for_room_in_a_slow_memory(rt: HostRuntime) -> Result<(), OutOfMemory> {
     let alloc = rt.alloc();
-    let mut agent = open_agent(alloc, 1, 3, Mode::Read)?;
-    let mut memory = open_memory(alloc, 10, 0, 1)?;
-    let times = times::<Brand>(alloc, Blank::new(1), &mut agent, &mut memory, 10, 50)?;
-    assert_eq!(rt; times.sent.as_slice(), [0, 1, 11].as_slice());
-    assert_eq!(rt; times.answers.as_slice(), [21, 31, 41].as_slice());
+    let agent = open_agent(alloc, 1, 3, Mode::Read)?;
+    let memory = open_memory(alloc, 10, 0, 1)?;
+    let mut pair = Pair::open(alloc, agent, memory)?;
+    run_both::<Brand>(alloc, Blank::new(1), &mut pair, 10, 50)?;
+    let (agent, memory) = (&pair.agent, &pair.memory);
+    assert_eq!(rt; pair.agent_times.sent.as_slice(), [0, 1, 11].as_slice());
+    assert_eq!(rt; pair.agent_times.taken.as_slice(), [21, 31, 41].as_slice());
     assert_eq!(rt; agent.issued(), 3);
     assert_eq!(rt; agent.answered(), agent.count());
     assert_eq!(rt; agent.sum(), 3 * 0x0707_0707);
@@ -173,13 +274,14 @@ fn an_agent_waits_for_room_in_a_slow_memory(rt: HostRuntime) -> Result<(), OutOf
 #[test]
 fn a_request_is_served_the_latency_after_it_was_taken(rt: HostRuntime) -> Result<(), OutOfMemory> {
     let alloc = rt.alloc();
-    let mut agent = open_agent(alloc, 1000, 1, Mode::Read)?;
-    let mut memory = open_memory(alloc, 1000, 0, 1000)?;
-    let early = times::<Brand>(alloc, Blank::new(1), &mut agent, &mut memory, 1, 1003)?;
-    assert_eq!(rt; early.sent.as_slice(), [0].as_slice());
-    assert_eq!(rt; early.taken.as_slice(), [1].as_slice());
-    assert_eq!(rt; early.served.as_slice(), [1001].as_slice());
-    assert_eq!(rt; early.answers.as_slice(), [1002].as_slice());
+    let agent = open_agent(alloc, 1000, 1, Mode::Read)?;
+    let memory = open_memory(alloc, 1000, 0, 1000)?;
+    let mut pair = Pair::open(alloc, agent, memory)?;
+    run_both::<Brand>(alloc, Blank::new(1), &mut pair, 1, 1003)?;
+    assert_eq!(rt; pair.agent_times.sent.as_slice(), [0].as_slice());
+    assert_eq!(rt; pair.memory_times.taken.as_slice(), [1].as_slice());
+    assert_eq!(rt; pair.memory_times.sent.as_slice(), [1001].as_slice());
+    assert_eq!(rt; pair.agent_times.taken.as_slice(), [1002].as_slice());
     Ok(())
 }
 
@@ -194,8 +296,8 @@ fn first_request<L: Ledger>(
     requires some { 0 < blank.parts }
 {
     let mut steps = Steps::<L>::open(blank);
-    let mut io = [Port::open(alloc, 1)?];
-    first_done(alloc, agent, &mut io, 0, &mut steps)
+    let mut io = open_row(alloc)?;
+    first_done(alloc, agent, &mut io, Some(0), &mut steps)
 }
 
 #[test]
@@ -236,11 +338,11 @@ fn answer_to<L: Ledger>(
     requires some { 0 < blank.parts }
 {
     let mut steps = Steps::<L>::open(blank);
-    let mut top = [Port::open(alloc, 1)?];
-    let _ = top[0].deliver(msg);
-    let _ = first_done(alloc, memory, &mut top, 0, &mut steps)?;
-    let _ = first_done(alloc, memory, &mut top, 1, &mut steps)?;
-    Ok(top[0].out_head())
+    let mut top = open_row(alloc)?;
+    let _ = top.deliver(0, msg);
+    let _ = first_done(alloc, memory, &mut top, Some(0), &mut steps)?;
+    let _ = first_done(alloc, memory, &mut top, Some(1), &mut steps)?;
+    Ok(top.out_head(0))
 }
 
 fn message(kind: MsgKind, addr: u32, len: u8) -> Msg {

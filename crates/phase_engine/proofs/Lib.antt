@@ -1,4 +1,5 @@
-pub mod OpenLaws
-pub mod PlanLaws
+pub mod GearLaws
 pub mod RunLaws
 pub mod TimesLaws
+pub mod OpenLaws
+pub mod EngineLaws

@@ -13,18 +13,22 @@ use Rattle.event_queue.specs.NextTimes.{time_of}
 use Rattle.tick_law.specs.Machine.{Machine}
 use Rattle.tick_law.specs.Wires.{Wires}
 use Rattle.tick_law.specs.WorldPlaces.{WorldPlaces}
-use Rattle.tick_law.specs.Pass.{Side, everyone}
+use Rattle.tick_law.specs.Pass.{Side}
+use Rattle.tick_law.specs.Verdict.{awake_below}
 use Rattle.tick_law.specs.Outcomes.{outcome, whats_of, records_to}
-use Rattle.tick_law.specs.SerialLoop.{System, pick, mid, world_at, parts_of, links_of, records_at_time, records_below, stirs_at, end_below}
-use Rattle.model_laws.specs.Gaps.{IsSetUp, world_good}
-use Rattle.time_step.specs.Jump.{NoneBelow, Reached, jump_to, end_more}
-use Rattle.time_step.specs.Kept.{IsBoundary}
-use Rattle.due_step.specs.Half.{half_of, number_of}
-use Rattle.due_step.proofs.HalfLaws.{half_at, length-half}
+use Rattle.tick_law.specs.SerialLoop.{System, begun, pick, mid, world_at, parts_of, links_of, records_at_time, records_below, stirs_at, end_below}
+use Rattle.model_laws.specs.Fitted.{IsSetUp}
+use Rattle.model_laws.proofs.BothCourses.{world_good}
+use Rattle.model_laws.proofs.NothingBeforeStart.{records_begin, awake_begin}
+use Rattle.model_laws.specs.Reached.{NoneBelow, Reached}
+use Rattle.model_laws.proofs.TimesPassedOver.{jump_to, end_more}
+use Rattle.model_laws.specs.Boundary.{IsBoundary}
+use Rattle.model_laws.specs.SideTimes.{half_of, number_of}
+use Rattle.model_laws.proofs.SideTimesLaws.{half_at, length-half}
 use Rattle.trace_out.specs.Names.{NamesView}
 use Rattle.trace_out.specs.Lines.{text_of, lines_of}
 use Rattle.trace_out.proofs.Writing.{Got-more}
-use Rattle.phase_engine.specs.SleepGear.{IsDueBy}
+use Rattle.phase_engine.specs.RunGear.{IsDueBy}
 use Rattle.phase_engine.specs.Between.{records_over, records_between}
 
 tail_same : {A : Type 0} (x y : A) (xs ys : List A) → x ∷ xs ≡ y ∷ ys → xs ≡ ys
@@ -76,14 +80,14 @@ actors_in m w stepped t h base (suc n) most b =
 
 module _ {P N : Type 0} where
   -- each record of a time is of an actor that is there
-  pub known_actors : (r : System P N) (vp : P → Type 0) (vn : N → Type 0) (t most : ℕ) → IsSetUp r vp vn → t ≤ 501000000001 → most ≡ length r.start.parts + length r.start.links → All (λ (x : Record). x.actor.0 < most) (records_at_time r t)
+  pub known_actors : (r : System P N) (vp : P → Type 0) (vn : N → Type 0) (t most : ℕ) → IsSetUp r vp vn → t ≤ 501000000001 → most ≡ length r.start.world.parts + length r.start.world.links → All (λ (x : Record). x.actor.0 < most) (records_at_time r t)
   known_actors r vp vn t most up l e =
       let good = world_good r vp vn t up l in
-      let parts : length (world_at r t).parts ≡ length r.start.parts = good.part_count in
-      let links : length (mid r t).links ≡ length r.start.links = good.link_count in
+      let parts : length (world_at r t).parts ≡ length r.start.world.parts = good.part_count in
+      let links : length (mid r t).links ≡ length r.start.world.links = good.link_count in
       All-append (λ (x : Record). x.actor.0 < most) _ _
-      (actors_in r.part r.part_wires everyone t (parts_of (world_at r t)) 0 (length (world_at r t).parts) most (omega (arith, parts, e)))
-      (actors_in r.link r.link_wires everyone t (links_of (mid r t)) (length r.start.parts) (length (mid r t).links) most (omega (arith, links, e)))
+      (actors_in r.part r.part_wires (begun r.start.at t) t (parts_of (world_at r t)) 0 (length (world_at r t).parts) most (omega (arith, parts, e)))
+      (actors_in r.link r.link_wires (begun r.start.at t) t (links_of (mid r t)) (length r.start.world.parts) (length (mid r t).links) most (omega (arith, links, e)))
 
   -- from a boundary to the next time at which somebody is due
   pub to_due : (r : System P N) (vp : P → Type 0) (vn : N → Type 0) (d e : ℕ) (world : WorldPlaces P N) (times : List (Option Time)) (first n m : ℕ) → IsSetUp r vp vn → d ≤ e → e ≤ 500000000001 → (d < e → (i : ℕ) (t : Time) → time_of times i ≡ Some t → e ≤ t.0) → IsBoundary r d world (half_of first n times) (half_of n m times) → Reached r d e world (half_of first n times) (half_of n m times)
@@ -101,8 +105,8 @@ module _ {P N : Type 0} where
   records_split : (r : System P N) (d e : ℕ) → d ≤ e → records_below r d ++ records_between r d e ≡ records_below r e
   records_split r d e l = over_at r d (e - d) ∙ ap (λ n. records_below r n) (let z : d + (e - d) ≡ e = omega (arith, l) in z)
 
-  from_start : (r : System P N) (e : ℕ) → records_between r 0 e ≡ records_below r e
-  from_start r e = records_split r 0 e (omega arith)
+  from_start : (r : System P N) (e : ℕ) → r.start.at ≤ e → records_between r r.start.at e ≡ records_below r e
+  from_start r e l = ap (λ x. x ++ records_between r r.start.at e) (sym (records_begin r r.start.at (omega arith))) ∙ records_split r r.start.at e l
 
   pub none_between : (r : System P N) (d : ℕ) → records_between r d d ≡ []
   none_between r d = ap (records_over r d) (let z : d - d ≡ 0 = omega arith in z)
@@ -113,8 +117,13 @@ module _ {P N : Type 0} where
       ∙ ap (λ n. records_between r d t ++ records_at_time r n) (let z : d + (t - d) ≡ t = omega (arith, l) in z)
 
   -- from the beginning on
-  pub from_beginning : (r : System P N) (d e : ℕ) → d ≡ 0 → records_between r d e ≡ records_below r e
-  from_beginning r d e z = ap (λ n. records_between r n e) z ∙ from_start r e
+  pub from_beginning : (r : System P N) (d e : ℕ) → d ≡ r.start.at → d ≤ e → records_between r d e ≡ records_below r e
+  from_beginning r d e z l = ap (λ n. records_between r n e) z ∙ from_start r e (subst (λ n. n ≤ e) z l)
+
+  pub awake_then : (r : System P N) (d e old new : ℕ) → d ≡ r.start.at → new + awake_below r d ≡ old + awake_below r e → new ≡ old + awake_below r e
+  awake_then r d e old new z s =
+      let none : awake_below r d ≡ 0 = ap (awake_below r) z ∙ awake_begin r r.start.at (omega arith) in
+      omega (arith, none, s)
 
   -- nothing is recorded between two boundaries
   pub records_jump : (r : System P N) (d t e : ℕ) → d ≤ t → t ≤ e → records_below r e ≡ records_below r t → records_between r d e ≡ records_between r d t

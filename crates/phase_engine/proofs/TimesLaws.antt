@@ -9,9 +9,9 @@ use Rattle.std.proofs.lemmas.Option.{none-some}
 use Rattle.sim_base.specs.declared.time.Time.{Time}
 use Rattle.event_queue.specs.NextTimes.{time_of, earlier}
 use Rattle.tick_law.specs.Verdict.{is_there, exists_to}
-use Rattle.time_step.specs.Table.{next_at_place}
-use Rattle.due_step.specs.Half.{half_of, number_of}
-use Rattle.due_step.proofs.HalfLaws.{half_at, length-half}
+use Rattle.model_laws.specs.NextTable.{next_at_place}
+use Rattle.model_laws.specs.SideTimes.{half_of, number_of}
+use Rattle.model_laws.proofs.SideTimesLaws.{half_at, length-half}
 
 pub none_set : (n i : ℕ) → time_of (replicate n None) i ≡ None
 none_set n i = elim (cases_lt i n) [

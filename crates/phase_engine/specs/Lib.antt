@@ -1,4 +1,4 @@
-pub mod PlanNames
-pub mod SleepGear
-pub mod Engine
+pub mod RunGear
+pub mod Run
 pub mod Between
+pub mod Engine

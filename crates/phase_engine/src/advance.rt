@@ -1,47 +1,47 @@
-ghost use Rattle.std.specs.Prelude.{◌≡◌, ◌+◌, ◌≤◌, length};
-ghost use Rattle.tick_law.specs.SerialLoop.{end_below};
-ghost use Rattle.tick_law.specs.PlanView.{system_of};
+ghost use Rattle.std.specs.Prelude.{◌≡◌, ◌+◌, ◌<◌, ◌≤◌};
+ghost use Rattle.tick_law.specs.PlanView.{system_from};
 ghost use Rattle.tick_law.specs.Verdict.{awake_below};
-ghost use Rattle.phase_engine.specs.SleepGear.{IsSleepGear, IsAt};
+ghost use Rattle.phase_engine.specs.Run.{IsRun};
 
 use crate::next_due::next_due;
 use crate::one_time::one_time;
-use crate::sleep_gear::SleepGear;
-use serial_loop::run::later;
+use crate::run::Run;
+use run_gear::later;
 use sim_base::Steps;
-use std::sync::ledger::Ledger;
-use tick_law::{Actor, Charter, World};
+use std::sync::ledger::{Blank, Ledger};
+use tick_law::{Actor, Charter};
 
-/// The times from boundary `from` on and below `upto` at which somebody is due, where `before` is the ending time so far. The
-/// answer is the ending time then.
+/// The times from the run's boundary on and below `upto` at which somebody is due. Looks at the heap are counted by a counter that
+/// is made of `blank`.
 pub fn advance_due<P: Actor + Drop, N: Actor + Drop, C: Charter<P, N>, L: Ledger, M: Ledger>(
-    world: &mut World<P, N>,
-    gear: &mut SleepGear,
-    base: u32,
-    from: u64,
+    run: &mut Run<P, N>,
     upto: u64,
-    before: u64,
     steps: &mut Steps<L>,
-    looks: &mut Steps<M>,
-) -> u64
-    requires gear { IsSleepGear P.machine N.machine P.valid N.valid C.plan gear.old }
-    requires at { IsAt P.machine N.machine C.plan from world.old gear.old.next }
-    requires base { base ≡ length C.plan.parts }
-    requires order { from ≤ upto }
-    requires time { upto ≤ 500000000001 }
-    requires before { before ≡ end_below (system_of P.machine N.machine C.plan) from }
+    blank: Blank,
+)
+    requires name { blank.name ≡ M.name }
+    requires parts { blank.parts ≡ M.parts }
+    requires some { 0 < blank.parts }
+    requires run { IsRun P.machine N.machine P.valid N.valid C.plan C.start run.old }
+    requires forward { run.old.at ≤ upto }
+    requires within { upto ≤ C.plan.until + 1 }
 
-    ensures gear { IsSleepGear P.machine N.machine P.valid N.valid C.plan gear.new }
-    ensures at { IsAt P.machine N.machine C.plan upto world.new gear.new.next }
-    ensures end { result ≡ end_below (system_of P.machine N.machine C.plan) upto }
-    ensures steps { steps.new + awake_below (system_of P.machine N.machine C.plan) from ≡ steps.old + awake_below (system_of P.machine N.machine C.plan) upto }
+    ensures run { IsRun P.machine N.machine P.valid N.valid C.plan C.start run.new }
+    ensures at { run.new.at ≡ upto }
+    ensures steps { steps.new + awake_below (system_from P.machine N.machine C.plan C.start) run.old.at ≡ steps.old + awake_below (system_from P.machine N.machine C.plan C.start) upto }
 {
-    let mut end = before;
-    let mut t = next_due(&gear.next, from, upto, looks);
+    let mut looks = Steps::<M>::open(blank);
+    let mut t = next_due(&run.gear.next, run.at, upto, &mut looks);
     while t < upto {
-        let stirred = one_time::<P, N, C, L, M>(world, gear, base, t, steps, looks);
-        end = later(stirred, t, end);
-        t = next_due(&gear.next, t + 1, upto, looks);
+        let stirred = one_time::<P, N, C, L, M>(
+            &mut run.world,
+            &mut run.gear,
+            t,
+            steps,
+            &mut looks,
+        );
+        run.end = later(stirred, t, run.end);
+        t = next_due(&run.gear.next, t + 1, upto, &mut looks);
     }
-    end
+    run.at = upto;
 }

@@ -1,17 +1,18 @@
-//! The sleeping engine of one thread: it goes from one time at which somebody is due to the next.
+//! The sleeping engine of one thread: from one time at which somebody is due to the next, it steps those who are due and writes the
+//! lines of what they did.
 #![tactic(auto)]
 
 mod advance;
-mod drive;
 mod engine;
 mod first_times;
-mod names;
 mod next_due;
 mod one_time;
 mod plan_run;
 mod run;
-mod sleep_gear;
+mod run_lines;
+mod run_open;
 mod verdict;
 
-pub use engine::{Engine, TraceFault};
-pub use plan_run::{RunFault, run_plan};
+pub use engine::Engine;
+pub use plan_run::run_plan;
+pub use run_gear::{RunFault, TraceFault};

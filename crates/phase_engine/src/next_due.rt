@@ -1,7 +1,7 @@
 ghost use Rattle.std.specs.Prelude.{◌≡◌, ℕ, ◌<◌, ◌≤◌, ◌⊎◌, Some};
 ghost use Rattle.sim_base.specs.declared.time.Time.{Time};
 ghost use Rattle.event_queue.specs.NextTimes.{time_of};
-ghost use Rattle.phase_engine.specs.SleepGear.{IsDueBy};
+ghost use Rattle.phase_engine.specs.RunGear.{IsDueBy};
 
 use event_queue::NextTimes;
 use sim_base::Steps;

@@ -1,39 +1,21 @@
 ghost use Rattle.std.specs.Prelude.{◌≡◌, ◌≢◌, ◌+◌, ◌≤◌, Err, false, IfOk, OnOk};
 ghost use Rattle.sim_io.specs.Sink.{Rose, Got, GotPrefix};
-ghost use Rattle.tick_law.specs.SerialLoop.{world_at, whole_world, records_below};
-ghost use Rattle.tick_law.specs.PlanView.{system_of};
+ghost use Rattle.port_rows.specs.World.{state_of};
+ghost use Rattle.tick_law.specs.SerialLoop.{world_at, records_below};
+ghost use Rattle.tick_law.specs.PlanView.{opening, system_from, system_of};
 ghost use Rattle.tick_law.specs.Verdict.{verdict_at, end_at, awake_below};
 ghost use Rattle.trace_out.specs.Lines.{lines_of};
-ghost use Rattle.phase_engine.specs.PlanNames.{names_of};
-ghost use Rattle.phase_engine.specs.declared.engine.TraceFault.{TraceFault};
+ghost use Rattle.run_gear.specs.PlanNames.{names_of};
+ghost use Rattle.run_gear.specs.declared.fault.TraceFault.{TraceFault};
 
-use crate::engine::{Engine, TraceFault};
-use serial_loop::Ending;
+use crate::engine::Engine;
+use run_gear::{Ending, RunFault, TraceFault};
 use sim_base::{OutOfMemory, Steps};
 use sim_io::Sink;
 use std::alloc::Global;
 use std::marker::Brand;
 use std::sync::ledger::Ledger;
 use tick_law::{Actor, Charter, Plan};
-
-/// Why a run of a plan left no verdict.
-#[derive(Clone, Copy, Debug, PartialEq, Eq)]
-pub enum RunFault {
-    /// A write of a line failed.
-    Trace(TraceFault),
-    OutOfMemory,
-}
-
-impl From<OutOfMemory> for RunFault {
-    ghost use Rattle.std.specs.Prelude.{◌≡◌};
-    ghost use Rattle.phase_engine.specs.declared.plan_run.RunFault.TheVariants.{OutOfMemory};
-
-    ghost from_gives = { λ _ fault. fault ≡ OutOfMemory };
-
-    fn from(_fault: OutOfMemory) -> Self {
-        RunFault::OutOfMemory
-    }
-}
 
 fn run_of<P: Actor + Drop, N: Actor + Drop, C: Charter<P, N>, K: Sink, L: Ledger>(
     alloc: Global,
@@ -43,15 +25,16 @@ fn run_of<P: Actor + Drop, N: Actor + Drop, C: Charter<P, N>, K: Sink, L: Ledger
     steps: &mut Steps<L>,
 ) -> Result<Ending<P, N>, RunFault>
     requires plan { plan ≡ C.plan }
+    requires start { C.start ≡ opening C.plan }
     requires out_only { all ≡ false }
 
-    ensures world { IfOk result (λ e. e.world ≡ whole_world (world_at (system_of P.machine N.machine C.plan) (C.plan.until + 1))) }
-    ensures verdict { IfOk result (λ e. e.verdict ≡ verdict_at (system_of P.machine N.machine C.plan) C.plan.until) }
-    ensures end { IfOk result (λ e. e.end.0 ≡ end_at (system_of P.machine N.machine C.plan) C.plan.until) }
-    ensures steps { OnOk result (steps.new ≡ steps.old + awake_below (system_of P.machine N.machine C.plan) (C.plan.until + 1)) }
-    ensures lines { OnOk result (Got (K.told sink.old) (K.told sink.new) (lines_of (names_of C.plan) all (records_below (system_of P.machine N.machine C.plan) (C.plan.until + 1)))) }
-    ensures fault { (f : TraceFault) → result ≡ Err (RunFault.Trace f) → (f.upto.0 ≤ C.plan.until + 1) × Rose (K.faults sink.old) (K.faults sink.new) × GotPrefix (K.told sink.old) (K.told sink.new) (lines_of (names_of C.plan) all (records_below (system_of P.machine N.machine C.plan) f.upto.0)) }
-    ensures fault_steps { (f : TraceFault) → result ≡ Err (RunFault.Trace f) → steps.new ≡ steps.old + awake_below (system_of P.machine N.machine C.plan) f.upto.0 }
+    ensures world { IfOk result (λ e. state_of e.world ≡ world_at (system_from P.machine N.machine C.plan C.start) (C.plan.until + 1)) }
+    ensures verdict { IfOk result (λ e. e.verdict ≡ verdict_at (system_from P.machine N.machine C.plan C.start) C.plan.until) }
+    ensures end { IfOk result (λ e. e.end.0 ≡ end_at (system_from P.machine N.machine C.plan C.start) C.plan.until) }
+    ensures steps { OnOk result (steps.new ≡ steps.old + awake_below (system_from P.machine N.machine C.plan C.start) (C.plan.until + 1)) }
+    ensures lines { OnOk result (Got (K.told sink.old) (K.told sink.new) (lines_of (names_of C.plan) all (records_below (system_from P.machine N.machine C.plan C.start) (C.plan.until + 1)))) }
+    ensures fault { (f : TraceFault) → result ≡ Err (RunFault.Trace f) → (f.upto.0 ≤ C.plan.until + 1) × Rose (K.faults sink.old) (K.faults sink.new) × GotPrefix (K.told sink.old) (K.told sink.new) (lines_of (names_of C.plan) all (records_below (system_from P.machine N.machine C.plan C.start) f.upto.0)) }
+    ensures fault_steps { (f : TraceFault) → result ≡ Err (RunFault.Trace f) → steps.new ≡ steps.old + awake_below (system_from P.machine N.machine C.plan C.start) f.upto.0 }
     ensures memory { result ≡ Err RunFault.OutOfMemory → (sink.new ≡ sink.old) × (steps.new ≡ steps.old) }
     ensures never_falls { K.faults sink.old ≤ K.faults sink.new }
 {
@@ -69,7 +52,7 @@ fn run_of<P: Actor + Drop, N: Actor + Drop, C: Charter<P, N>, K: Sink, L: Ledger
     }
 }
 
-/// Runs a plan to its end by the sleeping engine, and writes the lines of the bytes that cores wrote, one write a line. One step is
+/// Runs a plan to its end by the sleeping engine, and writes the lines of the bytes that cores wrote. One step is
 /// charged for each actor that is awake at an edge up to the plan's greatest time. A failed write ends the run, and is told with
 /// the boundary behind its time.
 pub fn run_plan<P: Actor + Drop, N: Actor + Drop, K: Sink, L: Ledger>(
@@ -81,7 +64,7 @@ pub fn run_plan<P: Actor + Drop, N: Actor + Drop, K: Sink, L: Ledger>(
 ) -> Result<Ending<P, N>, RunFault>
     requires out_only { all ≡ false }
 
-    ensures world { IfOk result (λ e. e.world ≡ whole_world (world_at (system_of P.machine N.machine plan) (plan.until + 1))) }
+    ensures world { IfOk result (λ e. state_of e.world ≡ world_at (system_of P.machine N.machine plan) (plan.until + 1)) }
     ensures verdict { IfOk result (λ e. e.verdict ≡ verdict_at (system_of P.machine N.machine plan) plan.until) }
     ensures end { IfOk result (λ e. e.end.0 ≡ end_at (system_of P.machine N.machine plan) plan.until) }
     ensures steps { OnOk result (steps.new ≡ steps.old + awake_below (system_of P.machine N.machine plan) (plan.until + 1)) }

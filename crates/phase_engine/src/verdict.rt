@@ -1,41 +1,29 @@
-ghost use Rattle.std.specs.Prelude.{◌≡◌, ◌+◌, ◌^◌, ◌<◌, ◌||◌, false, length};
-ghost use Rattle.tick_law.specs.WorldPlaces.{IsFull, somes};
-ghost use Rattle.tick_law.specs.Verdict.{exists_to, all_done, verdict_by};
-ghost use Rattle.time_step.specs.Table.{next_at_place};
-ghost use Rattle.due_step.specs.Half.{half_of};
+ghost use Rattle.std.specs.Prelude.{◌≡◌, ◌+◌, ◌<◌};
+ghost use Rattle.tick_law.specs.PlanView.{system_from};
+ghost use Rattle.tick_law.specs.Verdict.{verdict_at};
+ghost use Rattle.phase_engine.specs.Run.{IsRun};
 
-use event_queue::NextTimes;
-use serial_loop::verdict::are_done;
+use crate::run::Run;
+use run_gear::{are_done, verdict_at_rest};
 use sim_base::Steps;
-use std::sync::ledger::Ledger;
-use tick_law::{Actor, Places, Verdict};
+use std::sync::ledger::{Blank, Ledger};
+use tick_law::{Actor, Charter, Verdict};
 
-/// The verdict where nobody has a next time.
-fn verdict_at_rest(done: bool) -> Verdict
-    ensures { result ≡ verdict_by false done }
-{
-    if done {
-        Verdict::Finished
-    } else {
-        Verdict::Stuck
-    }
-}
-
-/// The verdict, by the next times that are left to `base` parts and `links` links, and the parts that are done.
-pub fn verdict_of<P: Actor + Drop, M: Ledger>(
-    parts: &Places<P>,
-    next: &NextTimes,
-    base: u32,
-    links: u32,
-    looks: &mut Steps<M>,
+/// The verdict of a run that has come to its end, by the next times that are left and the parts that are done.
+pub fn verdict_of<P: Actor + Drop, N: Actor + Drop, C: Charter<P, N>, M: Ledger>(
+    run: &Run<P, N>,
+    blank: Blank,
 ) -> Verdict
-    requires full { IsFull parts.now }
-    requires few { length parts.now < 2 ^ 32 }
-    requires all { length next.now ≡ base + links }
-    ensures { result ≡ verdict_by (exists_to (next_at_place (half_of 0 base next.now)) base || exists_to (next_at_place (half_of base links next.now)) links) (all_done P.machine (somes parts.now)) }
+    requires name { blank.name ≡ M.name }
+    requires parts { blank.parts ≡ M.parts }
+    requires some { 0 < blank.parts }
+    requires run { IsRun P.machine N.machine P.valid N.valid C.plan C.start run.now }
+    requires over { run.now.at ≡ C.plan.until + 1 }
+    ensures { result ≡ verdict_at (system_from P.machine N.machine C.plan C.start) C.plan.until }
 {
-    match next.first(base, looks) {
+    let mut looks = Steps::<M>::open(blank);
+    match run.gear.next.first(run.gear.links.first, &mut looks) {
         Some(_) => Verdict::Cut,
-        None => verdict_at_rest(are_done(parts)),
+        None => verdict_at_rest(are_done(&run.world.parts)),
     }
 }

@@ -5,3 +5,4 @@ pub mod LoneRun
 mod RingRun
 mod Verdicts
 mod ThreeRun
+mod Resumed

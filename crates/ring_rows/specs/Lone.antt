@@ -2,7 +2,7 @@
 use Rattle.std.specs.Prelude.{ℕ, List, [], ◌∷◌, Option, Some, None, replicate}
 use Rattle.sim_base.specs.declared.numbers.PortNo.{PortNo}
 use Rattle.port_msg.specs.PortView.{port_view}
-use Rattle.tick_law.specs.SerialLoop.{System, WorldState}
+use Rattle.tick_law.specs.SerialLoop.{System, WorldState, beginning}
 use Rattle.port_msg.specs.declared.message.Msg.{Msg}
 use Rattle.port_msg.specs.declared.message.MsgKind.TheVariants.{Token}
 use Rattle.part_kind.specs.Part.{part}
@@ -33,7 +33,7 @@ lone = record {
   link = link;
   part_wires = record { own = (0 ∷ []) ∷ []; owner = 0 ∷ [] };
   link_wires = record { own = (0 ∷ []) ∷ []; owner = 0 ∷ [] };
-  start = record { parts = lone_relay (Some 2) 0 0 ∷ []; links = lone_link 0 0 ∷ []; ports = port_view [] [] 4 ∷ [] };
+  start = beginning (record { parts = lone_relay (Some 2) 0 0 ∷ []; links = lone_link 0 0 ∷ []; ports = port_view [] [] 4 ∷ [] });
 }
 
 -- the token that this part made as its number seq, from a port to a port, with so many hops left

@@ -1,7 +1,7 @@
 -- Two relays of period 3 that pass a token to each other over a link of period 7.
 use Rattle.std.specs.Prelude.{ℕ, [], ◌∷◌, Option, Some, None}
 use Rattle.port_msg.specs.PortView.{port_view}
-use Rattle.tick_law.specs.SerialLoop.{System}
+use Rattle.tick_law.specs.SerialLoop.{System, beginning}
 use Rattle.part_kind.specs.Part.{part}
 use Rattle.part_kind.specs.LinkKind.{link}
 use Rattle.part_kind.specs.declared.part.Part.{Part}
@@ -25,5 +25,5 @@ pair = record {
   link = link;
   part_wires = record { own = (0 ∷ []) ∷ (1 ∷ []) ∷ []; owner = 0 ∷ 1 ∷ [] };
   link_wires = record { own = (0 ∷ 1 ∷ []) ∷ []; owner = 0 ∷ 0 ∷ [] };
-  start = record { parts = first_relay (Some 4) 0 0 ∷ second_relay None 0 0 ∷ []; links = pair_link 0 0 ∷ []; ports = port_view [] [] 4 ∷ port_view [] [] 4 ∷ [] };
+  start = beginning (record { parts = first_relay (Some 4) 0 0 ∷ second_relay None 0 0 ∷ []; links = pair_link 0 0 ∷ []; ports = port_view [] [] 4 ∷ port_view [] [] 4 ∷ [] });
 }

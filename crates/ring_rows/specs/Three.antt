@@ -1,7 +1,7 @@
 -- A ring of three relays, all of one period, told in periods: a token of six hops goes round twice.
 use Rattle.std.specs.Prelude.{ℕ, [], ◌∷◌, Some, None}
 use Rattle.port_msg.specs.PortView.{port_view}
-use Rattle.tick_law.specs.SerialLoop.{System}
+use Rattle.tick_law.specs.SerialLoop.{System, beginning}
 use Rattle.part_kind.specs.Part.{part}
 use Rattle.part_kind.specs.LinkKind.{link}
 use Rattle.part_kind.specs.declared.part.Part.{Part}
@@ -18,9 +18,9 @@ three = record {
   link = link;
   part_wires = record { own = (0 ∷ []) ∷ (1 ∷ []) ∷ (2 ∷ []) ∷ []; owner = 0 ∷ 1 ∷ 2 ∷ [] };
   link_wires = record { own = (0 ∷ 1 ∷ 2 ∷ []) ∷ []; owner = 0 ∷ 0 ∷ 0 ∷ [] };
-  start = record {
+  start = beginning (record {
     parts = relay_at 0 1 1 (Some 6) 0 0 ∷ relay_at 1 2 1 None 0 0 ∷ relay_at 2 0 1 None 0 0 ∷ [];
     links = three_link 0 0 ∷ [];
     ports = port_view [] [] 4 ∷ port_view [] [] 4 ∷ port_view [] [] 4 ∷ [];
-  };
+  });
 }

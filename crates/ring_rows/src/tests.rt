@@ -3,13 +3,16 @@ ghost use Rattle.std.specs.Prelude.{◌≡◌, ◌<◌, ◌≤◌};
 use crate::{lone_first_time, lone_plan};
 use direct_link::Direct;
 use part_kind::{LinkKind, Part};
-use serial_loop::{Ending, run_serial};
-use sim_base::{LinkNo, Name, OutOfMemory, PartNo, Steps, Time};
+use port_rows::World;
+use run_gear::{Ending, RunFault};
+use serial_loop::run_serial;
+use sim_base::{LinkNo, Name, PartNo, Steps, Time};
+use sim_io::MemSink;
 use std::alloc::Global;
 use std::marker::Brand;
 use std::sync::ledger::{Blank, Ledger};
 use std::test::Fail;
-use tick_law::{Verdict, World};
+use tick_law::Verdict;
 use traffic_parts::Relay;
 
 fn run<L: Ledger>(
@@ -17,7 +20,8 @@ fn run<L: Ledger>(
     blank: Blank,
     name: Name,
     until: u64,
-) -> Result<Ending<Part, LinkKind>, OutOfMemory>
+    sink: &mut MemSink,
+) -> Result<Ending<Part, LinkKind>, RunFault>
     requires name { blank.name ≡ L.name }
     requires parts { blank.parts ≡ L.parts }
     requires some { 0 < blank.parts }
@@ -25,16 +29,13 @@ fn run<L: Ledger>(
 {
     let mut steps = Steps::<L>::open(blank);
     if until == 0 {
-        return lone_first_time(alloc, name, &mut steps);
+        return lone_first_time(alloc, name, sink, &mut steps);
     }
     let plan = lone_plan(alloc, name, Time(until))?;
-    run_serial(alloc, plan, &mut steps)
+    run_serial(alloc, plan, sink, false, &mut steps)
 }
 
 fn relay(world: &World<Part, LinkKind>) -> Option<&Relay> {
-    if world.parts() == 0 {
-        return None;
-    }
     match world.part(PartNo(0)) {
         Some(Part::Relay(relay)) => Some(relay),
         _ => None,
@@ -42,9 +43,6 @@ fn relay(world: &World<Part, LinkKind>) -> Option<&Relay> {
 }
 
 fn link(world: &World<Part, LinkKind>) -> Option<&Direct> {
-    if world.links() == 0 {
-        return None;
-    }
     match world.link(LinkNo(0)) {
         Some(LinkKind::Direct(link)) => Some(link),
         _ => None,
@@ -60,9 +58,12 @@ fn a_token_of_two_hops_goes_round_twice(rt: HostRuntime) -> Result<(), Fail> {
         (3999, Verdict::Cut, 3000, 2, 1, 2),
         (4000, Verdict::Finished, 3000, 2, 1, 2),
     ];
+    let mut sink = MemSink::of(Vec::new(rt.alloc()), Vec::new(rt.alloc()));
     for (until, verdict, end, sent, ended, moved) in rows {
         assert!(rt; until <= 4000);
-        let ending = run::<Brand>(rt.alloc(), Blank::new(1), name, until)?;
+        let Ok(ending) = run::<Brand>(rt.alloc(), Blank::new(1), name, until, &mut sink) else {
+            return Err("no run".into());
+        };
         assert_eq!(rt; ending.verdict, verdict, "until {until}");
         assert_eq!(rt; ending.end, Time(end), "until {until}");
         let relay = relay(&ending.world).ok_or("no relay")?;
@@ -72,5 +73,6 @@ fn a_token_of_two_hops_goes_round_twice(rt: HostRuntime) -> Result<(), Fail> {
         assert_eq!(rt; link.moved(), moved, "until {until}");
         assert_eq!(rt; link.pointer(), 0, "until {until}");
     }
+    assert_eq!(rt; sink.bytes(), b"".as_slice());
     Ok(())
 }

@@ -1,3 +1,6 @@
+pub mod DoneLaws
 pub mod Mapped
+pub mod NameLaws
 pub mod Pigeons
 pub mod Setting
+pub mod Boundaries

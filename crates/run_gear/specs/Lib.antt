@@ -1,1 +1,3 @@
 pub mod IsGear
+pub mod IsOpened
+pub mod PlanNames

@@ -1,47 +1,117 @@
-ghost use Rattle.std.specs.Prelude.{IfOk};
+ghost use Rattle.std.specs.Prelude.{◌≡◌, ◌*◌, ◌≤◌, [], length, map, IfOk};
+ghost use Rattle.tick_law.specs.PlanView.{part_wires, link_wires, opening};
 ghost use Rattle.run_gear.specs.IsGear.{IsGear};
+ghost use Rattle.run_gear.specs.IsOpened.{IsOpened};
 
 use crate::gear::Gear;
-use crate::tables::{all_known, faces, first_times, periods};
-use crate::wires::wirings;
+use crate::names::plan_names;
+use crate::opened::Opened;
+use crate::ports::open_ports;
+use crate::tables::{all_known, periods};
+use crate::wires::{link_wiring, part_wiring};
+use actor_turn::side::SideGear;
 use port_msg::RecList;
+use port_rows::{World, hollow_rows};
 use sim_base::OutOfMemory;
 use std::alloc::Global;
 use tick_law::{Actor, Plan};
-use time_step::scratch::Scratch;
 
-/// The most ports that one actor can have.
-const MOST_PORTS: u32 = 1024;
+/// The most records of a step, for each port of its actor.
+const RECORDS_OF_A_PORT: u32 = 64;
 
-/// The most records of one time: 64 for each port, in each of the two passes.
-const MOST_RECORDS: u32 = 2 * 64 * MOST_PORTS;
+/// The most records of one time of so many ports, which have a part and a link each.
+fn most_records(ports: u32) -> u32
+    requires few { ports ≤ 1024 }
+    ensures { result ≡ 128 * ports }
+{
+    2 * RECORDS_OF_A_PORT * ports
+}
+
+/// The side of a plan's parts.
+fn part_side<P: Actor + Drop, N: Actor + Drop>(
+    alloc: Global,
+    plan: &Plan<P, N>,
+) -> Result<SideGear, OutOfMemory>
+    ensures wires { IfOk result (λ side. side.wiring ≡ part_wires plan.now) }
+    ensures periods { IfOk result (λ side. side.periods.items ≡ map P.machine.period plan.now.parts) }
+    ensures first { IfOk result (λ side. side.first ≡ 0) }
+{
+    let wiring = part_wiring(alloc, plan)?;
+    let periods = periods(alloc, &plan.parts)?;
+    Ok(SideGear {
+        wiring,
+        periods,
+        first: 0,
+    })
+}
+
+/// The side of a plan's links, which stand behind its parts.
+fn link_side<P: Actor + Drop, N: Actor + Drop>(
+    alloc: Global,
+    plan: &Plan<P, N>,
+) -> Result<SideGear, OutOfMemory>
+    ensures wires { IfOk result (λ side. side.wiring ≡ link_wires plan.now) }
+    ensures periods { IfOk result (λ side. side.periods.items ≡ map N.machine.period plan.now.links) }
+    ensures first { IfOk result (λ side. side.first ≡ length plan.now.parts) }
+{
+    let wiring = link_wiring(alloc, plan)?;
+    let periods = periods(alloc, &plan.links)?;
+    Ok(SideGear {
+        wiring,
+        periods,
+        first: plan.parts.len() as u32,
+    })
+}
 
 /// The gear of a run of this plan, at its beginning.
-pub fn open_gear<P: Actor + Drop, N: Actor + Drop>(
+fn open_gear<P: Actor + Drop, N: Actor + Drop>(
     alloc: Global,
     plan: &Plan<P, N>,
 ) -> Result<Gear, OutOfMemory>
-    ensures { IfOk result (IsGear P.machine N.machine P.valid N.valid plan.now) }
+    ensures gear { IfOk result (IsGear P.machine N.machine P.valid N.valid plan.now (opening plan.now)) }
+    ensures none { IfOk result (λ gear. gear.recs.items ≡ []) }
 {
     all_known(&plan.parts);
     all_known(&plan.links);
-    let (part_wires, link_wires) = wirings(alloc, plan)?;
-    let part_periods = periods(alloc, &plan.parts)?;
-    let link_periods = periods(alloc, &plan.links)?;
-    let part_next = first_times(alloc, plan.parts.len())?;
-    let link_next = first_times(alloc, plan.links.len())?;
-    let faces = faces(alloc, plan.ports.len())?;
-    let hand = Scratch::open(alloc, MOST_PORTS)?;
-    let recs = RecList::open(alloc, MOST_RECORDS)?;
+    let parts = part_side(alloc, plan)?;
+    let links = link_side(alloc, plan)?;
+    let hands = hollow_rows(alloc, &parts.wiring)?;
+    let recs = RecList::open(alloc, most_records(plan.ports.len() as u32))?;
     Ok(Gear {
-        part_wires,
-        link_wires,
-        part_periods,
-        link_periods,
-        part_next,
-        link_next,
-        faces,
-        hand,
+        parts,
+        links,
+        hands,
         recs,
+    })
+}
+
+/// A run of a plan at its beginning.
+pub fn open_run<P: Actor + Drop, N: Actor + Drop>(
+    alloc: Global,
+    plan: Plan<P, N>,
+) -> Result<Opened<P, N>, OutOfMemory>
+    ensures { IfOk result (IsOpened P.machine N.machine P.valid N.valid plan) }
+{
+    let gear = open_gear(alloc, &plan)?;
+    let names = plan_names(alloc, &plan)?;
+    let ports = open_ports(alloc, &plan.ports)?;
+    let wiring = link_wiring(alloc, &plan)?;
+    let until = plan.until;
+    let Plan {
+        parts,
+        links,
+        part_names: _,
+        link_names: _,
+        fields: _,
+        ports: _,
+        own: _,
+        until: _,
+    } = plan;
+    let world = World::open(alloc, parts, links, ports, wiring)?;
+    Ok(Opened {
+        world,
+        gear,
+        names,
+        until,
     })
 }

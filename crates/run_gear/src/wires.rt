@@ -1,11 +1,10 @@
 ghost use Rattle.std.specs.Prelude.{◌≡◌, map, IfOk};
 ghost use Rattle.sim_base.specs.declared.numbers.PortNo.{PortNo};
-ghost use Rattle.tick_law.specs.declared.port_plan.PortPlan.{PortPlan};
 ghost use Rattle.tick_law.specs.PlanView.{part_wires, link_wires};
 
 use sim_base::{OutOfMemory, PortNo};
 use std::alloc::Global;
-use tick_law::{Actor, Plan, PortPlan, Wiring};
+use tick_law::{Actor, Plan, Wiring};
 
 fn numbers(alloc: Global, own: &[PortNo]) -> Result<Vec<u32>, OutOfMemory>
     ensures { IfOk result (λ v. v.items ≡ map (λ (q : PortNo). q.0) own.now) }
@@ -26,28 +25,28 @@ fn own_lists(alloc: Global, own: &[Vec<PortNo>]) -> Result<Vec<Vec<u32>>, OutOfM
     Ok(lists)
 }
 
-fn owners(alloc: Global, ports: &[PortPlan]) -> Result<(Vec<u32>, Vec<u32>), OutOfMemory>
-    ensures parts { IfOk result (λ o. o.0.items ≡ map (λ (p : PortPlan). p.part.0) ports.now) }
-    ensures links { IfOk result (λ o. o.1.items ≡ map (λ (p : PortPlan). p.link.0) ports.now) }
-{
-    let parts = ports.iter().map(|p| p.part.0).collect(alloc)?;
-    let links = ports.iter().map(|p| p.link.0).collect(alloc)?;
-    Ok((parts, links))
-}
-
-/// Who has which ports: the parts, and the links.
-pub fn wirings<P: Actor + Drop, N: Actor + Drop>(
+/// Which part has which ports.
+pub fn part_wiring<P: Actor + Drop, N: Actor + Drop>(
     alloc: Global,
     plan: &Plan<P, N>,
-) -> Result<(Wiring, Wiring), OutOfMemory>
-    ensures parts { IfOk result (λ w. w.0 ≡ part_wires plan.now) }
-    ensures links { IfOk result (λ w. w.1 ≡ link_wires plan.now) }
+) -> Result<Wiring, OutOfMemory>
+    ensures { IfOk result (λ w. w ≡ part_wires plan.now) }
 {
-    let (part_owner, link_owner) = owners(alloc, &plan.ports)?;
-    let (part_own, link_own) = plan.own.split_at(plan.parts.len());
-    let part_own = own_lists(alloc, part_own)?;
-    let link_own = own_lists(alloc, link_own)?;
-    let parts = Wiring::of(part_own, part_owner);
-    let links = Wiring::of(link_own, link_owner);
-    Ok((parts, links))
+    let owner = plan.ports.iter().map(|p| p.part.0).collect(alloc)?;
+    let (own, _) = plan.own.split_at(plan.parts.len());
+    let own = own_lists(alloc, own)?;
+    Ok(Wiring::of(own, owner))
+}
+
+/// Which link has which ports.
+pub fn link_wiring<P: Actor + Drop, N: Actor + Drop>(
+    alloc: Global,
+    plan: &Plan<P, N>,
+) -> Result<Wiring, OutOfMemory>
+    ensures { IfOk result (λ w. w ≡ link_wires plan.now) }
+{
+    let owner = plan.ports.iter().map(|p| p.link.0).collect(alloc)?;
+    let (_, own) = plan.own.split_at(plan.parts.len());
+    let own = own_lists(alloc, own)?;
+    Ok(Wiring::of(own, owner))
 }

@@ -1,28 +1,32 @@
 -- Between two edges of the serial loop nothing steps, and no next time lies there.
 use Rattle.std.proofs.Common.{◌≡◌, ◌≢◌, ℕ, ◌+◌, ◌-◌, ◌*◌, ◌/◌, ◌%◌, ◌<◌, ◌≤◌, List, length, get_or, zero, suc, sym, ◌∙◌, ap, subst, arith, refl, add-one}
-use Rattle.std.specs.Prelude.{Option, Some, None, Bool, true, false, ◌==◌, ◌||◌, slice_get, nat_lt}
+use Rattle.std.specs.Prelude.{Option, Some, None, Bool, true, false, ◌==◌, ◌&&◌, ◌||◌, slice_get, nat_lt}
 use Rattle.std.proofs.lemmas.Bool.Decides.{nat_tests}
 use Rattle.std.proofs.Math.Nat.{div-add-mod', mul-le-mul_left}
 use Rattle.tick_law.specs.Machine.{Machine}
 use Rattle.tick_law.specs.Wires.{Wires}
 use Rattle.tick_law.specs.WorldPlaces.{WorldPlaces}
-use Rattle.tick_law.specs.Pass.{Side, has_edge, everyone}
-use Rattle.tick_law.specs.Outcomes.{outcome_by, outcome, charge_of, steps_to, steps_of}
-use Rattle.tick_law.specs.SerialLoop.{System, edges_at, edges_below}
+use Rattle.tick_law.specs.Pass.{Side, has_edge, step_of}
+use Rattle.tick_law.specs.Outcomes.{outcome_if, outcome_by, outcome, charge_of, steps_to, steps_of}
+use Rattle.tick_law.specs.SerialLoop.{System, begun, world_at, mid, parts_of, links_of, edges_at, edges_below}
 use Rattle.sim_base.specs.Edge.{edge_from}
 use Rattle.tick_law.specs.NextTime.{any_from, woken, times, next_at}
 use Rattle.tick_law.specs.Course.{Course, after, flag, faced, period, due_at, due_after, timer, next_in, part_course, link_course}
-use Rattle.model_laws.specs.Course.{IsCourse}
-use Rattle.model_laws.specs.Awake.{at_of, mod_edge}
-use Rattle.model_laws.specs.Due.{at_here}
-use Rattle.model_laws.specs.Tables.{edge_at}
-use Rattle.model_laws.specs.Wired.{is_same, is_other}
-use Rattle.model_laws.specs.Gaps.{IsSetUp, part_is, link_is}
-use Rattle.model_laws.specs.Next.{edge_here}
-use Rattle.model_laws.specs.Time.{period_at_start}
-use Rattle.time_step.specs.Kept.{IsBoundary}
-use Rattle.time_step.specs.Jump.{NoneBelow, Reached, jump_to}
-use Rattle.time_step.specs.Gear.{Fitted}
+use Rattle.model_laws.proofs.SideCourse.{IsCourse}
+use Rattle.model_laws.proofs.AwakeOrQuiet.{at_of, mod_edge}
+use Rattle.model_laws.proofs.DuePassIsWhole.{at_here}
+use Rattle.model_laws.proofs.NextTimesGoOn.{edge_at}
+use Rattle.model_laws.proofs.OneMoreActor.{is_same, is_other}
+use Rattle.model_laws.specs.Fitted.{IsSetUp, Fitted}
+use Rattle.model_laws.proofs.BothCourses.{part_is, link_is}
+use Rattle.model_laws.proofs.NextEdge.{edge_here}
+use Rattle.model_laws.proofs.NobodyIsDue.{period_at_start}
+use Rattle.model_laws.proofs.StepsFromStart.{begun_all}
+use Rattle.model_laws.specs.Stepping.{Everyone}
+use Rattle.model_laws.specs.NextTable.{steps_now}
+use Rattle.model_laws.specs.Boundary.{IsBoundary}
+use Rattle.model_laws.specs.Reached.{NoneBelow, Reached}
+use Rattle.model_laws.proofs.TimesPassedOver.{jump_to}
 
 -- the first edge from d is a multiple of the period
 edge_is : (p d : ℕ) → 0 < p → (n : ℕ) × (edge_from p d ≡ n * p)
@@ -129,34 +133,38 @@ module _ {S : Type 0} where
           edge_back p t (suc n) pos e = let z : t - p ≡ n * p = omega (arith, e) in ap (λ x. x % p) z ∙ mod_edge n p pos
 
   -- where no state has an edge, nobody steps
-  no_steps : (m : Machine S) (w : Wires) (t : ℕ) (h : Side S) (n : ℕ) → ((i : ℕ) (s : S) → slice_get h.states i ≡ Some s → has_edge m t s ≡ false) → steps_to m w everyone t h n ≡ 0
-  no_steps m w t h zero none = refl
-  no_steps m w t h (suc n) none =
-      let before : steps_to m w everyone t h n ≡ 0 = no_steps m w t h n none in
-      let here : charge_of (outcome m w everyone t h n) ≡ 0 = no_charge (slice_get h.states n) (none n) in
+  no_steps : (m : Machine S) (w : Wires) (stepped : ℕ → Bool) (t : ℕ) (h : Side S) (n : ℕ) → ((i : ℕ) (s : S) → slice_get h.states i ≡ Some s → has_edge m t s ≡ false) → steps_to m w stepped t h n ≡ 0
+  no_steps m w stepped t h zero none = refl
+  no_steps m w stepped t h (suc n) none =
+      let before : steps_to m w stepped t h n ≡ 0 = no_steps m w stepped t h n none in
+      let here : charge_of (outcome m w stepped t h n) ≡ 0 = no_charge (slice_get h.states n) (none n) in
       omega (arith, before, here)
     where
-      no_charge : (o : Option S) → ((s : S) → o ≡ Some s → has_edge m t s ≡ false) → charge_of (outcome_by m w everyone t h.ports n o) ≡ 0
+      no_charge : (o : Option S) → ((s : S) → o ≡ Some s → has_edge m t s ≡ false) → charge_of (outcome_by m w stepped t h.ports n o) ≡ 0
       no_charge None none = refl
-      no_charge (Some s) none = let e = none s refl in rw e refl
+      no_charge (Some s) none = let e = none s refl in rw e (either (stepped n))
+        where
+          either : (b : Bool) → charge_of (outcome_if (b && false) (step_of m w t h.ports n s)) ≡ 0
+          either true = refl
+          either false = refl
 
-  no_course_steps : (c : Course S) (valid : S → Type 0) (end d j : ℕ) → IsCourse c valid end → j ≤ end → d ≤ j → ((i : ℕ) → i < length (c.before 0).states → j < edge_from (period c i) d) → steps_of c.machine c.wires everyone j (c.before j) ≡ 0
+  no_course_steps : (c : Course S) (valid : S → Type 0) (end d j : ℕ) → IsCourse c valid end → j ≤ end → d ≤ j → ((i : ℕ) → i < length (c.before 0).states → j < edge_from (period c i) d) → steps_of c.machine c.wires (begun c.from j) j (c.before j) ≡ 0
   no_course_steps c valid end d j is l from none =
-      no_steps c.machine c.wires j (c.before j) (length (c.before j).states)
+      no_steps c.machine c.wires (begun c.from j) j (c.before j) (length (c.before j).states)
       (λ i s e. let h = at_here c valid end i j s is l e in let pos = period_at_start c valid end i is h.0 in ap (λ p. j % p == 0) h.1.same ∙ no_edge (period c i) d j pos from (none i h.0))
 
 module _ {P N : Type 0} where
   -- no actor has an edge from d on and below e
   pub record NoEdge (r : System P N) (d e : ℕ) : Type 0 where
-    pub parts : (i : ℕ) → i < length r.start.parts → e ≤ edge_from (period (part_course r) i) d
-    pub links : (i : ℕ) → i < length r.start.links → e ≤ edge_from (period (link_course r) i) d
+    pub parts : (i : ℕ) → i < length r.start.world.parts → e ≤ edge_from (period (part_course r) i) d
+    pub links : (i : ℕ) → i < length r.start.world.links → e ≤ edge_from (period (link_course r) i) d
 
-  pub none_below_parts : (r : System P N) (vp : P → Type 0) (vn : N → Type 0) (d e : ℕ) (world : WorldPlaces P N) (parts links : List (Option ℕ)) → IsSetUp r vp vn → d ≤ 500000000001 → NoEdge r d e → IsBoundary r d world parts links → NoneBelow parts (length r.start.parts) e
+  pub none_below_parts : (r : System P N) (vp : P → Type 0) (vn : N → Type 0) (d e : ℕ) (world : WorldPlaces P N) (parts links : List (Option ℕ)) → IsSetUp r vp vn → d ≤ 500000000001 → NoEdge r d e → IsBoundary r d world parts links → NoneBelow parts (length r.start.world.parts) e
   none_below_parts r vp vn d e world parts links up l none was = record {
     none = λ i b at f. let g = next_from (part_course r) vp 501000000000 i d d at (part_is r vp vn up) b (omega (arith, l)) (sym (was.parts_are.at i b) ∙ f) in let h = none.parts i b in omega (arith, g, h);
   }
 
-  pub none_below_links : (r : System P N) (vp : P → Type 0) (vn : N → Type 0) (d e : ℕ) (world : WorldPlaces P N) (parts links : List (Option ℕ)) → IsSetUp r vp vn → d ≤ 500000000001 → NoEdge r d e → IsBoundary r d world parts links → NoneBelow links (length r.start.links) e
+  pub none_below_links : (r : System P N) (vp : P → Type 0) (vn : N → Type 0) (d e : ℕ) (world : WorldPlaces P N) (parts links : List (Option ℕ)) → IsSetUp r vp vn → d ≤ 500000000001 → NoEdge r d e → IsBoundary r d world parts links → NoneBelow links (length r.start.world.links) e
   none_below_links r vp vn d e world parts links up l none was = record {
     none = λ i b at f. let g = next_from (link_course r) vn 501000000000 i (d - 1) d at (link_is r vp vn up) b (omega (arith, l)) (sym (was.links_are.at i b) ∙ f) in let h = none.links i b in omega (arith, g, h);
   }
@@ -179,6 +187,11 @@ module _ {P N : Type 0} where
   edges_to r vp vn d e up le l none =
       let z : d + (e - d) ≡ e = omega (arith, le) in
       ap (λ x. edges_below r x) (sym z) ∙ edges_jump r vp vn d e (e - d) up l none (omega (arith, z))
+
+  -- the steps of everyone are the edges of the time
+  pub everyone_counts : (r : System P N) (t : ℕ) → r.start.at ≤ t → steps_now Everyone r t ≡ edges_at r t
+  everyone_counts r t l =
+      ap (λ who. steps_of r.part r.part_wires who t (parts_of (world_at r t)) + steps_of r.link r.link_wires who t (links_of (mid r t))) (sym (begun_all r.start.at t l))
 
   pub edges_more : (r : System P N) (t e start now new : ℕ) → now ≡ start + edges_below r t → new ≡ now + edges_at r t → edges_below r e ≡ edges_below r (t + 1) → new ≡ start + edges_below r e
   edges_more r t e start now new a b c =

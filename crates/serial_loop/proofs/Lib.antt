@@ -1,3 +1,7 @@
 pub mod EdgeLaws
-pub mod Full
-pub mod Boundaries
+pub mod PassLaws
+pub mod RunLaws
+pub mod TimeLaws
+pub mod WakeLaws
+pub mod ActLaws
+pub mod WithinLaws

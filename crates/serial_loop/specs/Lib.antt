@@ -1,2 +1,3 @@
-pub mod IsOpened
 pub mod FirstEdge
+pub mod IsAt
+pub mod Woken

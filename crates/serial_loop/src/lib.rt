@@ -1,12 +1,16 @@
 //! The loop that ticks everything: every actor at every edge of its clock.
 #![tactic(auto)]
 
+mod act;
 mod edges;
-mod ending;
-pub mod opened;
-pub mod run;
-pub mod serial;
-pub mod verdict;
+mod pass;
+mod run;
+mod serial;
+mod step;
+mod table;
+mod time;
+mod verdict;
+mod wake;
 
-pub use ending::Ending;
 pub use serial::run_serial;
+pub use table::NextTables;

@@ -1,82 +1,75 @@
-ghost use Rattle.std.specs.Prelude.{◌≡◌, ◌+◌, ◌*◌, ◌≤◌, [], length};
-ghost use Rattle.tick_law.specs.SerialLoop.{pick, end_below, edges_below};
-ghost use Rattle.tick_law.specs.PlanView.{start_of};
-ghost use Rattle.model_laws.specs.Whole.{system};
-ghost use Rattle.model_laws.specs.Outcome.{own_to};
-ghost use Rattle.time_step.specs.Gear.{Fitted};
-ghost use Rattle.time_step.specs.Kept.{IsBoundary};
+//! All times of a run, from edge to edge.
+ghost use Rattle.std.specs.Prelude.{◌≡◌, ◌+◌, ◌≤◌, Err, IfErr, IfOk, OnErr, OnOk, false};
+ghost use Rattle.sim_io.specs.Sink.{Rose, Got, GotPrefix};
+ghost use Rattle.tick_law.specs.SerialLoop.{world_at, records_below, edges_below};
+ghost use Rattle.tick_law.specs.PlanView.{opening, system_from};
+ghost use Rattle.tick_law.specs.Verdict.{verdict_at, end_at};
+ghost use Rattle.trace_out.specs.Lines.{lines_of};
+ghost use Rattle.port_rows.specs.World.{state_of};
+ghost use Rattle.run_gear.specs.IsOpened.{IsOpened};
+ghost use Rattle.run_gear.specs.PlanNames.{names_of};
+ghost use Rattle.serial_loop.specs.IsAt.{IsAt};
+ghost use Rattle.run_gear.specs.IsGear.{IsGear};
 
 use crate::edges::next_edge;
-use port_msg::{Port, RecList};
-use sim_base::Steps;
+use crate::table::NextTables;
+use crate::time::tick_time;
+use crate::verdict::verdict_of;
+use run_gear::{Ending, Opened, TraceFault, later};
+use sim_base::{Steps, Time};
+use sim_io::Sink;
 use std::sync::ledger::Ledger;
-use tick_law::{Actor, Charter, Places, Wiring};
-use time_step::scratch::Scratch;
-use time_step::stepping::Stepping;
-use time_step::time::step_time;
-use time_step::wake::Face;
+use tick_law::{Actor, Charter};
+use trace_out::write_records;
 
-/// The ending time behind a time: that time where it stirred.
-pub fn later(stirred: bool, t: u64, end: u64) -> u64
-    ensures { result ≡ pick stirred t end }
-{
-    if stirred { t } else { end }
-}
-
-/// All times up to `until`, from edge to edge. The answer is the ending time.
-pub fn run_times<P: Actor + Drop, N: Actor + Drop, C: Charter<P, N>, L: Ledger>(
-    parts: &mut Places<P>,
-    links: &mut Places<N>,
-    ports: &mut Places<Port>,
-    part_wires: &Wiring,
-    link_wires: &Wiring,
-    part_periods: &[u64],
-    link_periods: &[u64],
-    part_next: &mut [Option<u64>],
-    link_next: &mut [Option<u64>],
-    base: u32,
-    until: u64,
-    faces: &mut [Face],
-    hand: &mut Scratch,
-    recs: &mut RecList,
+/// All times of a run up to its greatest one, from edge to edge, each with the lines of its records.
+pub fn run_opened<P: Actor + Drop, N: Actor + Drop, C: Charter<P, N>, K: Sink, L: Ledger>(
+    opened: Opened<P, N>,
+    mut next: NextTables,
+    sink: &mut K,
+    all: bool,
     steps: &mut Steps<L>,
-) -> u64
-    requires fitted { Fitted (system P.machine N.machine part_wires.now link_wires.now (start_of C.plan)) P.valid N.valid hand.old.room recs.old.room part_periods.now link_periods.now }
-    requires boundary { IsBoundary (system P.machine N.machine part_wires.now link_wires.now (start_of C.plan)) 0 (record { parts = parts.old; links = links.old; ports = ports.old }) part_next.old link_next.old }
-    requires base { base ≡ length (start_of C.plan).parts }
-    requires faces { length faces.old ≡ length ports.old }
-    requires none { hand.old.ports ≡ [] }
-    requires time { until ≤ 500000000000 }
-    requires room { 64 * (own_to part_wires.now (length (start_of C.plan).parts) + own_to link_wires.now (length (start_of C.plan).links)) ≤ recs.old.room }
+) -> Result<Ending<P, N>, TraceFault>
+    requires opened { IsOpened P.machine N.machine P.valid N.valid C.plan opened }
+    requires start { C.start ≡ opening C.plan }
+    requires at { IsAt P.machine N.machine C.plan C.start 0 opened.world next }
+    requires out_only { all ≡ false }
 
-    ensures boundary { IsBoundary (system P.machine N.machine part_wires.now link_wires.now (start_of C.plan)) (until + 1) (record { parts = parts.new; links = links.new; ports = ports.new }) part_next.new link_next.new }
-    ensures end { result ≡ end_below (system P.machine N.machine part_wires.now link_wires.now (start_of C.plan)) (until + 1) }
-    ensures steps { steps.new ≡ steps.old + edges_below (system P.machine N.machine part_wires.now link_wires.now (start_of C.plan)) (until + 1) }
+    ensures world { IfOk result (λ e. state_of e.world ≡ world_at (system_from P.machine N.machine C.plan C.start) (C.plan.until + 1)) }
+    ensures verdict { IfOk result (λ e. e.verdict ≡ verdict_at (system_from P.machine N.machine C.plan C.start) C.plan.until) }
+    ensures end { IfOk result (λ e. e.end.0 ≡ end_at (system_from P.machine N.machine C.plan C.start) C.plan.until) }
+    ensures steps { OnOk result (steps.new ≡ steps.old + edges_below (system_from P.machine N.machine C.plan C.start) (C.plan.until + 1)) }
+    ensures lines { OnOk result (Got (K.told sink.old) (K.told sink.new) (lines_of (names_of C.plan) all (records_below (system_from P.machine N.machine C.plan C.start) (C.plan.until + 1)))) }
+    ensures upto { IfErr result (λ f. f.upto.0 ≤ C.plan.until + 1) }
+    ensures fault { OnErr result (Rose (K.faults sink.old) (K.faults sink.new)) }
+    ensures prefix { IfErr result (λ f. GotPrefix (K.told sink.old) (K.told sink.new) (lines_of (names_of C.plan) all (records_below (system_from P.machine N.machine C.plan C.start) f.upto.0))) }
+    ensures fault_steps { IfErr result (λ f. steps.new ≡ steps.old + edges_below (system_from P.machine N.machine C.plan C.start) f.upto.0) }
+    ensures never_falls { K.faults sink.old ≤ K.faults sink.new }
 {
+    let Opened {
+        mut world,
+        mut gear,
+        names,
+        until,
+    } = opened;
+    let last = until.0;
     let mut end = 0;
-    let mut t = next_edge(part_periods, link_periods, 0, until + 1);
-    while t <= until {
-        recs.clear();
-        let stirred = step_time::<P, N, C, L>(
-            Stepping::Everyone,
-            parts,
-            links,
-            ports,
-            part_wires,
-            link_wires,
-            part_periods,
-            link_periods,
-            part_next,
-            link_next,
-            base,
-            t,
-            faces,
-            hand,
-            recs,
-            steps,
-        );
+    let mut t = next_edge(&gear.parts.periods, &gear.links.periods, 0, last + 1);
+    while t <= last {
+        let stirred = tick_time::<P, N, C, L>(&mut world, &mut gear, &mut next, t, steps);
         end = later(stirred, t, end);
-        t = next_edge(part_periods, link_periods, t + 1, until + 1);
+        match write_records(&gear.recs, &names, all, sink) {
+            Ok(()) => {}
+            Err(_) => {
+                return Err(TraceFault { upto: Time(t + 1) });
+            }
+        }
+        t = next_edge(&gear.parts.periods, &gear.links.periods, t + 1, last + 1);
     }
-    end
+    let verdict = verdict_of(&world.parts, &next);
+    Ok(Ending {
+        world,
+        verdict,
+        end: Time(end),
+    })
 }

@@ -1,9 +1,11 @@
-ghost use Rattle.std.specs.Prelude.{◌≡◌};
+ghost use Rattle.std.specs.Prelude.{◌≡◌, ◌==◌};
+ghost use Rattle.std.specs.Cmp.{partial_equiv_from_equiv};
+ghost use Rattle.std.specs.Cmp.Lexicographic.{pointwise, nat_list_eq_equiv};
 
 use std::marker::Model;
 
 /// A list of bytes.
-#[derive(Drop)]
+#[derive(Clone, Debug, Drop)]
 pub struct Body {
     items: Vec<u8>,
 }
@@ -36,4 +38,18 @@ impl Body {
     {
         self.items
     }
+}
+
+impl PartialEq for Body {
+    ghost eq = { pointwise ◌==◌ };
+
+    ghost laws = { partial_equiv_from_equiv nat_list_eq_equiv };
+
+    fn eq(&self, other: &Self) -> bool {
+        self.items == other.items
+    }
+}
+
+impl Eq for Body {
+    ghost laws = { nat_list_eq_equiv };
 }

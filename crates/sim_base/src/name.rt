@@ -1,6 +1,7 @@
 ghost use Rattle.std.specs.Prelude.{◌≡◌, ◌≤◌, ◌↔◌, IsTrue, IsSome, IfSome, length, All};
 ghost use Rattle.sim_base.specs.Name.{IsName, is_name_byte, padded};
 
+use std::fmt;
 use std::marker::Model;
 
 /// The most bytes of a name.
@@ -72,5 +73,15 @@ impl Name {
         ensures shape { IsName result.now }
     {
         &self.bytes[..self.len as usize]
+    }
+}
+
+/// Prints the name as it stands.
+impl fmt::Debug for Name {
+    fn fmt<W: fmt::Write>(&self, f: &mut fmt::Formatter<W>) -> fmt::Result {
+        for byte in self.text().iter() {
+            f.write_char(char::from(*byte))?;
+        }
+        Ok(())
     }
 }

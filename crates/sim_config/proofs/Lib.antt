@@ -3,3 +3,5 @@ pub mod WordTests
 pub mod Fronts
 pub mod ItemLaws
 pub mod Defaults
+pub mod Rows
+pub mod BuiltKinds

@@ -1,5 +1,5 @@
 -- The keys of each table: their words, the numbers that they have, and what stands where one is left out.
-use Rattle.std.specs.Prelude.{◌≡◌, ℕ, ◌%◌, ◌≤◌, ◌==◌, ◌&&◌, nat_le, min, Bool, true, IsTrue, List, [], ◌∷◌, Option, codes}
+use Rattle.std.specs.Prelude.{◌≡◌, ℕ, ◌%◌, ◌≤◌, ◌==◌, ◌&&◌, nat_le, min, Bool, true, IsTrue, List, [], ◌∷◌, Option, Some, None, codes, if◌then◌else◌}
 use Rattle.std.specs.Int.{is_power_of_two}
 use Rattle.sim_config.specs.declared.keys.Allowed.{Allowed}
 use Rattle.sim_config.specs.declared.keys.Shape.{Shape}
@@ -11,6 +11,7 @@ use Rattle.sim_config.specs.declared.keys.KeyWord.TheVariants.{Version, Until, P
 use Rattle.sim_config.specs.declared.keys.TheConstants.{ADDRESS_LIMIT, AGENT_BASE, BASE, BUFFER, COUNT, DEPTH, DRAW, GAP, GRANULE, LATENCY, LINE, LINKS, MAPS, MEMORY_SIZE, PARTS, PC, PERIOD, PORTS, PROGRAMS, RANGES, SETS, SIZE, SPAN, START, TO, TOKEN, UNTIL, VERSION, WAYS, WINDOW, WORDS, WORD_VALUES}
 use Rattle.sim_config.specs.declared.kinds.PartKind.{PartKind}
 use Rattle.sim_config.specs.declared.kinds.PartKind.TheVariants.{Relay, Agent, Memory, Cache, Core}
+use Rattle.sim_config.specs.declared.kinds.TheConstants.{CACHES_ARE_BUILT, CORES_ARE_BUILT}
 use Rattle.sim_config.specs.declared.kinds.LinkKind.{LinkKind}
 use Rattle.sim_config.specs.declared.kinds.LinkKind.TheVariants.{Direct}
 
@@ -239,6 +240,18 @@ part_kind_words Agent = address_map ∷ agent_base.word ∷ span.word ∷ count.
 part_kind_words Memory = base.word ∷ memory_size.word ∷ latency.word ∷ depth.word ∷ words.word ∷ []
 part_kind_words Cache = address_map ∷ line.word ∷ sets.word ∷ ways.word ∷ []
 part_kind_words Core = inst ∷ data_map ∷ pc.word ∷ []
+
+-- whether there are parts of a kind yet
+abbrev pub is_built : PartKind → Bool
+is_built Relay = true
+is_built Agent = true
+is_built Memory = true
+is_built Cache = CACHES_ARE_BUILT
+is_built Core = CORES_ARE_BUILT
+
+-- the kind, or none where there are no parts of it yet
+abbrev pub if_built : PartKind → Option PartKind
+if_built kind = if is_built kind then Some kind else None
 
 -- a link
 abbrev pub ports : ListRow

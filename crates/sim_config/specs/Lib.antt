@@ -3,3 +3,4 @@ pub mod Tables
 pub mod Values
 pub mod Meaning
 pub mod Words
+pub mod Rows

@@ -50,8 +50,8 @@ part_kind word =
     if bytes_eq word (codes "relay") then Some part_kinds.Relay
     else if bytes_eq word (codes "agent") then Some part_kinds.Agent
     else if bytes_eq word (codes "memory") then Some part_kinds.Memory
-    else if bytes_eq word (codes "cache") then Some part_kinds.Cache
-    else if bytes_eq word (codes "core") then Some part_kinds.Core
+    else if bytes_eq word (codes "cache") then Keys.if_built part_kinds.Cache
+    else if bytes_eq word (codes "core") then Keys.if_built part_kinds.Core
     else None
 
 abbrev pub agent_mode : List ℕ → Option Mode

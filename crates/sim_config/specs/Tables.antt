@@ -1,8 +1,9 @@
 -- What the tables of a configuration say, and the ranges and shapes that this keeps.
-use Rattle.std.specs.Prelude.{ℕ, ◌+◌, ◌*◌, ◌<◌, ◌≤◌, List, length, IfSome, IsUtf8}
+use Rattle.std.specs.Prelude.{◌≡◌, ℕ, true, ◌+◌, ◌*◌, ◌<◌, ◌≤◌, List, length, IfSome, IsUtf8}
 use Rattle.sim_base.specs.declared.time.Time.{Time}
 use Rattle.sim_config.specs.declared.part_text.PartKeys.{PartKeys}
 use Rattle.sim_config.specs.declared.part_text.PartKeys.TheVariants.{Relay, Agent, Memory, Cache, Core}
+use Rattle.sim_config.specs.declared.kinds.PartKind.TheVariants as part_kinds
 use Rattle.sim_config.specs.declared.link_text.PortRef.{PortRef}
 use Rattle.sim_config.specs.declared.link_text.LinkKeys.{LinkKeys}
 use Rattle.sim_config.specs.Keys
@@ -77,8 +78,8 @@ abbrev pub AreKeys : PartKeys → Type 0
 AreKeys (Relay to start) = IfSome start (Keys.IsAllowed Keys.token.allowed)
 AreKeys (Agent map base span count window gap start mode draw) = IsAgent base span count window gap start draw
 AreKeys (Memory base size latency depth words) = IsMemory base size latency depth words
-AreKeys (Cache map line sets ways) = IsCache line sets ways
-AreKeys (Core inst data_map pc) = Keys.IsAllowed Keys.pc.allowed pc
+AreKeys (Cache map line sets ways) = (Keys.is_built part_kinds.Cache ≡ true) × IsCache line sets ways
+AreKeys (Core inst data_map pc) = (Keys.is_built part_kinds.Core ≡ true) × Keys.IsAllowed Keys.pc.allowed pc
 
 pub record IsPart (p : PartTable) : Type 0 where
   pub period : Keys.IsAllowed Keys.period.allowed p.period

@@ -9,7 +9,7 @@ use std::alloc::{AllocError, AllocFailed};
 pub enum ConfigRule {
     /// The file has more bytes than a configuration may have.
     TooLong,
-    /// The file is no TOML document.
+    /// The file is no TOML document in UTF-8, or none that the reader takes.
     NotToml,
     /// A table has a key that tables of its sort do not have.
     UnknownKey,
@@ -28,11 +28,15 @@ pub enum ConfigRule {
 pub enum TableNo {
     /// The document itself.
     Top,
+    /// The map of this number.
     Map(u32),
-    /// The map's number and the range's.
+    /// The range of the second number in the map of the first.
     Range(u32, u32),
+    /// The part of this number.
     Part(u32),
+    /// The link of this number.
     Link(u32),
+    /// The program of this number.
     Program(u32),
 }
 

@@ -11,6 +11,12 @@ pub(crate) enum PartKind {
     Core,
 }
 
+/// Whether there are caches yet. A kind without parts is refused as a word that is none of a kind.
+pub(crate) const CACHES_ARE_BUILT: bool = false;
+
+/// Whether there are cores yet.
+pub(crate) const CORES_ARE_BUILT: bool = false;
+
 /// The kinds of links.
 #[derive(Clone, Copy)]
 pub(crate) enum LinkKind {
@@ -18,7 +24,25 @@ pub(crate) enum LinkKind {
 }
 
 impl PartKind {
-    ghost use Rattle.sim_config.specs.Keys.{part_kind_words};
+    ghost use Rattle.sim_config.specs.Keys.{part_kind_words, is_built, if_built};
+
+    /// Whether there are parts of this kind yet.
+    fn is_built(self) -> bool
+        ensures { result ≡ is_built self }
+    {
+        match self {
+            PartKind::Relay | PartKind::Agent | PartKind::Memory => true,
+            PartKind::Cache => CACHES_ARE_BUILT,
+            PartKind::Core => CORES_ARE_BUILT,
+        }
+    }
+
+    /// The kind, or None where there are no parts of it yet.
+    pub(crate) fn if_built(self) -> Option<Self>
+        ensures { result ≡ if_built self }
+    {
+        if self.is_built() { Some(self) } else { None }
+    }
 
     /// The words of the keys that parts of this kind alone have.
     pub(crate) fn words(self) -> &'static [&'static str]

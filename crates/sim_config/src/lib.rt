@@ -1,4 +1,21 @@
 //! Reading configurations: from the bytes of a file to the plan that it writes, or the first rule that it breaks.
+//!
+//! [`read_config`] is the one call. What it answers has each number within its range and each default filled in, in the order of
+//! the file. Names are taken as they stand: whether there is a part, a map or a port of that name is not asked here.
+//!
+//! ```
+//! let text = "version = 1\npart = [{name = 'r0', kind = 'relay', period = 1000, to = 'r0', start = 2}]";
+//! match read_config(rt.alloc(), text.as_bytes()) {
+//!     Ok(plan) => {
+//!         for part in plan.parts.items() {
+//!             // prints `r0 has a period of 1000 ps`
+//!             println!(rt; "{:?} has a period of {} ps", part.name, part.period)?;
+//!         }
+//!     }
+//!     // prints, of an empty file, `missing top version`
+//!     Err(fault) => println!(rt; "{fault}")?,
+//! }
+//! ```
 #![tactic(auto)]
 
 mod element;

@@ -2,25 +2,31 @@ use crate::list_of::ListOf;
 use sim_base::Name;
 use std::marker::Model;
 
-/// A port by the name of its part and its own word.
-#[derive(Clone, Copy, PartialEq, Eq)]
+/// A port, which a configuration writes as `PART.PORT`.
+#[derive(Clone, Copy, Debug, PartialEq, Eq)]
 pub struct PortRef {
+    /// The name of its part.
     pub part: Name,
+    /// Its own word, as `io`.
     pub word: Name,
 }
 
 /// What a link has by its kind.
 #[derive(Clone, Copy, Debug, PartialEq, Eq)]
 pub enum LinkKeys {
+    /// A direct link, which has nothing of its own.
     Direct,
 }
 
-/// A link, with its period in picoseconds and the ports that it joins.
-#[derive(Drop)]
+/// A link of the machine.
+#[derive(Clone, Debug, PartialEq, Eq, Drop)]
 pub struct LinkText {
     pub name: Name,
+    /// In picoseconds, 1 to 1,000,000,000.
     pub period: u64,
+    /// The 1 to 1024 ports that it joins, in order.
     pub ports: ListOf<PortRef>,
+    /// Its kind, with what it has by that.
     pub kind: LinkKeys,
 }
 
@@ -30,6 +36,8 @@ impl Model for LinkText {
     ghost Value = { LinkTable };
 
     ghost view = { λ l. record { name = l.name; period = l.period; ports = l.ports; kind = l.kind } };
+
+    ghost inverse = { λ l. record { name = l.name; period = l.period; ports = l.ports; kind = l.kind } };
 
     ghost invariant = { λ l. IsLink (record { name = l.name; period = l.period; ports = l.ports; kind = l.kind }) };
 }

@@ -1,9 +1,10 @@
 ghost use Rattle.std.specs.Prelude.{◌≡◌};
+ghost use Rattle.std.specs.Cmp.Lexicographic.{pointwise, lists_equiv, lists_per};
 
 use std::marker::Model;
 
 /// A list of values, which contracts see as a list.
-#[derive(Drop)]
+#[derive(Clone, Debug, Drop)]
 pub struct ListOf<T> {
     items: Vec<T>,
 }
@@ -24,6 +25,7 @@ impl<T> ListOf<T> {
         ListOf { items }
     }
 
+    /// The values in order.
     pub fn items(&self) -> &[T]
         ensures { result.now ≡ self.now }
     {
@@ -36,4 +38,18 @@ impl<T> ListOf<T> {
     {
         self.items
     }
+}
+
+impl<T: PartialEq> PartialEq for ListOf<T> {
+    ghost eq = { pointwise T.eq };
+
+    ghost laws = { lists_per T.laws };
+
+    fn eq(&self, other: &Self) -> bool {
+        self.items == other.items
+    }
+}
+
+impl<T: Eq> Eq for ListOf<T> {
+    ghost laws = { lists_equiv T.Eq.laws };
 }

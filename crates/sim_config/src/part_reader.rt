@@ -1,5 +1,6 @@
-ghost use Rattle.std.specs.Prelude.{◌≡◌, ◌*◌, ◌/◌, ◌≤◌, length, IfOk};
+ghost use Rattle.std.specs.Prelude.{◌≡◌, ◌*◌, ◌/◌, ◌≤◌, length, true, IfOk};
 ghost use Rattle.toml.specs.View.{table_view};
+ghost use Rattle.sim_config.specs.declared.kinds.PartKind.TheVariants as part_kinds;
 ghost use Rattle.sim_config.specs.Keys;
 ghost use Rattle.sim_config.specs.Tables.{AreKeys};
 ghost use Rattle.sim_config.specs.Values.{Gives, list_at, number_in};
@@ -91,7 +92,7 @@ fn memory(alloc: Global, section: &Section) -> Result<PartKeys, ConfigFault>
 #[tactic(auto, unfolding(crate::specs::Meaning::cache_at))]
 fn cache(section: &Section) -> Result<PartKeys, ConfigFault>
     ensures meaning { result ≡ spec.cache_at section.now.place (table_view section.now.table.now) }
-    ensures keys { IfOk result AreKeys }
+    ensures keys { Keys.is_built part_kinds.Cache ≡ true → IfOk result AreKeys }
 {
     let map = section.name("map")?;
     let line = section.number(&LINE)?;
@@ -108,7 +109,7 @@ fn cache(section: &Section) -> Result<PartKeys, ConfigFault>
 #[tactic(auto, unfolding(crate::specs::Meaning::core_at))]
 fn core(section: &Section) -> Result<PartKeys, ConfigFault>
     ensures meaning { result ≡ spec.core_at section.now.place (table_view section.now.table.now) }
-    ensures keys { IfOk result AreKeys }
+    ensures keys { Keys.is_built part_kinds.Core ≡ true → IfOk result AreKeys }
 {
     let inst_map = section.name("inst")?;
     let data_map = section.name("data")?;
@@ -122,6 +123,8 @@ fn core(section: &Section) -> Result<PartKeys, ConfigFault>
 
 /// The keys that a part has by its kind.
 fn keys(alloc: Global, kind: PartKind, section: &Section) -> Result<PartKeys, ConfigFault>
+    requires { Keys.is_built kind ≡ true }
+
     ensures meaning { Gives result (spec.part_keys_at kind section.now.place (table_view section.now.table.now)) }
     ensures keys { IfOk result AreKeys }
 {

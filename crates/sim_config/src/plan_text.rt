@@ -6,9 +6,10 @@ use crate::program_text::ProgramText;
 use sim_base::Time;
 use std::marker::Model;
 
-/// What a configuration writes: the machine, its programs, and the last time that is simulated.
-#[derive(Drop)]
+/// What a configuration writes: the machine, its programs, and how long it runs. Each list is in the order of the file.
+#[derive(Clone, Debug, PartialEq, Eq, Drop)]
 pub struct PlanText {
+    /// The greatest time that runs, 0 to 500,000,000,000 ps.
     pub until: Time,
     pub maps: ListOf<MapText>,
     pub parts: ListOf<PartText>,
@@ -22,6 +23,8 @@ impl Model for PlanText {
     ghost Value = { PlanTables };
 
     ghost view = { λ p. record { until = p.until; maps = p.maps; parts = p.parts; links = p.links; programs = p.programs } };
+
+    ghost inverse = { λ p. record { until = p.until; maps = p.maps; parts = p.parts; links = p.links; programs = p.programs } };
 
     ghost invariant = { λ p. IsPlan (record { until = p.until; maps = p.maps; parts = p.parts; links = p.links; programs = p.programs }) };
 }

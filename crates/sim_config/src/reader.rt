@@ -20,7 +20,7 @@ use sim_base::Time;
 use std::alloc::Global;
 use toml::Table;
 
-/// The most bytes of a configuration.
+/// The most bytes that a configuration has.
 pub const LONGEST_CONFIG: usize = 1_048_576;
 
 fn broken(rule: ConfigRule) -> ConfigFault
@@ -89,7 +89,17 @@ fn document(alloc: Global, bytes: &[u8]) -> Result<Table, ConfigFault>
 }
 
 #[tactic(auto, unfolding(crate::specs::Meaning::config_of))]
-/// The plan that a configuration writes, or the first rule that it breaks.
+/// The plan that a configuration writes.
+///
+/// The bytes are a TOML document in UTF-8, at most [`LONGEST_CONFIG`] of them. Names are not resolved: a part, a map or a port that
+/// is named need not be there.
+///
+/// Errors: `Broken` tells the first rule that the file breaks, in the order of docs/FORMATS.md, with its table and, where the rule
+/// is about one, its key; a file that is too long is refused unread, without memory. `OutOfMemory` comes where no memory is found,
+/// whatever the file has.
+///
+/// A call takes up to about 602 MB of memory and 1.6 MB of stack. That was measured at the worst files that are not too long; no
+/// clause says it.
 pub fn read_config(alloc: Global, bytes: &[u8]) -> Result<PlanText, ConfigFault>
     ensures meaning { Gives result (spec.config_of bytes.now) }
 

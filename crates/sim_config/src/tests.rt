@@ -44,3 +44,22 @@ fn a_list_gives_its_values_back(rt: HostRuntime) -> Result<(), Fail> {
     assert_eq!(rt; list.into_vec().as_slice(), [3, 1].as_slice());
     Ok(())
 }
+
+#[test]
+fn a_plan_is_copied_compared_and_printed(rt: HostRuntime) -> Result<(), Fail> {
+    let alloc = rt.alloc();
+    let text =
+        b"version = 1\npart = [{name = 'r0', kind = 'relay', period = 1000, to = 'r0', start = 2}]";
+    match read_config(alloc, text) {
+        Ok(plan) => {
+            assert!(rt; plan.clone()? == plan);
+            let told = format!(in alloc; "{:?}", plan.parts.items())?;
+            assert_eq!(rt;
+                told.as_str(),
+                "[PartText { name: r0, period: 1000, buffer: 4, kind: Relay { to: r0, start: Some(2) } }]"
+            );
+        }
+        Err(_) => panic!(rt; "a relay is a plan"),
+    }
+    Ok(())
+}

@@ -126,6 +126,35 @@ mod tests {
         }
     }
 
+    /// What a writer does at its first write.
+    #[derive(Clone, Copy, Drop)]
+    enum First {
+        Fails(ErrorKind),
+        TakesNothing,
+    }
+
+    /// A writer that does this at its first write, takes all that each later one gives it, and counts its writes.
+    #[derive(Drop)]
+    struct Once {
+        first: Option<First>,
+        writes: u8,
+    }
+
+    impl Write for Once {
+        fn write(&mut self, buf: &[u8]) -> io::Result<usize> {
+            self.writes = self.writes.saturating_add(1);
+            match self.first.take() {
+                Some(First::Fails(kind)) => Err(io::Error::from(kind)),
+                Some(First::TakesNothing) => Ok(0),
+                None => Ok(buf.len()),
+            }
+        }
+
+        fn flush(&mut self) -> io::Result<()> {
+            Ok(())
+        }
+    }
+
     #[test]
     fn a_piece_is_written_in_short_writes(rt: HostRuntime) {
         let slow = Slow {
@@ -146,6 +175,26 @@ mod tests {
         assert_eq!(rt; stream.write(b"abc"), Err(SinkFault));
         assert_eq!(rt; stream.write(b"abc"), Err(SinkFault));
         assert_eq!(rt; stream.faults, 2);
+    }
+
+    #[test]
+    fn a_write_that_fails_once_is_not_tried_again(rt: HostRuntime) {
+        let rows = [
+            (First::TakesNothing, Err(SinkFault), 1, 1),
+            (First::Fails(ErrorKind::WriteZero), Err(SinkFault), 1, 1),
+            (First::Fails(ErrorKind::WouldBlock), Err(SinkFault), 1, 1),
+            (First::Fails(ErrorKind::StorageFull), Err(SinkFault), 1, 1),
+            (First::Fails(ErrorKind::Interrupted), Ok(()), 2, 0),
+        ];
+        for (first, answer, writes, faults) in rows {
+            let mut stream = Stream::of(Once {
+                first: Some(first),
+                writes: 0,
+            });
+            assert_eq!(rt; stream.write(b"abc"), answer);
+            assert_eq!(rt; stream.writer.writes, writes);
+            assert_eq!(rt; stream.faults, faults);
+        }
     }
 
     #[test]

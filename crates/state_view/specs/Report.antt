@@ -1,5 +1,5 @@
 -- The report of a run, line by line.
-use Rattle.std.specs.Prelude.{ℕ, List, [], ◌∷◌, ◌++◌, Bool, true, false, codes, Option, Some, None, slice_get, slice_index_or}
+use Rattle.std.specs.Prelude.{ℕ, List, [], ◌∷◌, ◌++◌, Bool, true, false, codes}
 use Rattle.std.specs.Fmt.{decimal}
 use Rattle.tick_law.specs.SerialLoop.{WorldState}
 use Rattle.tick_law.specs.declared.verdict.Verdict.{Verdict}
@@ -66,11 +66,3 @@ lines_of line (n ∷ ns) (s ∷ ss) = line n s ++ lines_of line ns ss
 abbrev pub report_of : List (List ℕ) → List (List ℕ) → ℕ → WorldState Part LinkKind → Verdict → ℕ → List ℕ
 report_of part_names link_names budget world verdict end =
     head_lines verdict end budget ++ lines_of part_line part_names world.parts ++ lines_of link_line link_names world.links
-
--- the line of one of them, by its number
-abbrev pub line_by : {S : Type 0} → (List ℕ → S → List ℕ) → List ℕ → Option S → List ℕ
-line_by line name None = []
-line_by line name (Some s) = line name s
-
-abbrev pub line_at : {S : Type 0} → (List ℕ → S → List ℕ) → List (List ℕ) → List S → ℕ → List ℕ
-line_at line names states i = line_by line (slice_index_or names i []) (slice_get states i)

@@ -2,6 +2,8 @@
 #![tactic(auto)]
 
 mod lines;
+#[cfg(test)]
+mod tests;
 mod text;
 mod world_report;
 

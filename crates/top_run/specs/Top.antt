@@ -8,7 +8,7 @@ use Rattle.tick_law.specs.declared.verdict.Verdict.TheVariants.{Finished, Stuck,
 use Rattle.sim_io.specs.Sink.{Rose, Got, GotPrefix}
 use Rattle.state_view.specs.Report.{report_of}
 use Rattle.trace_out.specs.Lines.{lines_of}
-use Rattle.phase_engine.specs.PlanNames.{names_of}
+use Rattle.run_gear.specs.PlanNames.{names_of}
 use Rattle.ring_plan.specs.Ring.{up_to, relay_name, ring_plan, ring_system}
 use Rattle.top_run.specs.declared.command.Ring.{Ring}
 

@@ -77,6 +77,53 @@ fn one_relay_is_cut(rt: HostRuntime) -> Result<(), Fail> {
     Ok(())
 }
 
+/// The report of the largest ring, with what the first relay and each of the others have sent and ended.
+fn largest_report(
+    alloc: Global,
+    head: &str,
+    first: &str,
+    others: &str,
+    link: &str,
+) -> Result<String, AllocError> {
+    let mut text = format!(in alloc; "{head}part r0 relay done {first}\n")?;
+    for relay in 1..256u32 {
+        let line = format!(in alloc; "part r{relay} relay done {others}\n")?;
+        text.push_str(line.as_str())?;
+    }
+    text.push_str(link)?;
+    Ok(text)
+}
+
+#[test]
+fn the_largest_ring_runs_for_the_shortest_and_the_longest_time(
+    rt: HostRuntime,
+) -> Result<(), Fail> {
+    let alloc = rt.alloc();
+    let shortest = ran(alloc, &["ring", "256", "0"], &[], &[])?;
+    let report = largest_report(
+        alloc,
+        "verdict cut\nend 0\nbudget 0\n",
+        "sent 1 ended 0",
+        "sent 0 ended 0",
+        "link net direct moved 1 pointer 1\n",
+    )?;
+    assert_eq!(rt; shortest.status, Some(Status(11)));
+    assert_eq!(rt; shortest.out.bytes(), report.as_bytes());
+    assert_eq!(rt; shortest.err.bytes(), b"".as_slice());
+    let longest = ran(alloc, &["ring", "256", "500000000000"], &[], &[])?;
+    let report = largest_report(
+        alloc,
+        "verdict finished\nend 1023000\nbudget 500000000000\n",
+        "sent 2 ended 1",
+        "sent 2 ended 0",
+        "link net direct moved 512 pointer 0\n",
+    )?;
+    assert_eq!(rt; longest.status, Some(Status(0)));
+    assert_eq!(rt; longest.out.bytes(), report.as_bytes());
+    assert_eq!(rt; longest.err.bytes(), b"".as_slice());
+    Ok(())
+}
+
 #[test]
 fn other_words_are_refused(rt: HostRuntime) -> Result<(), Fail> {
     let none = ran(rt.alloc(), &[], &[], &[])?;

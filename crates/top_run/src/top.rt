@@ -1,4 +1,4 @@
-ghost use Rattle.std.specs.Prelude.{◌≡◌, ◌≢◌, ℕ, ◌+◌, ◌<◌, ◌⊎◌, length, is_some, true, Err, IfOk, IfErr, IfSome, OnOk, OnErr};
+ghost use Rattle.std.specs.Prelude.{◌≡◌, ◌≢◌, ℕ, ◌+◌, ◌<◌, ◌⊎◌, [], length, is_some, true, Err, IfOk, IfErr, IfSome, OnOk, OnErr};
 ghost use Rattle.sim_io.specs.Sink.{Rose, Got, GotPrefix};
 ghost use Rattle.top_run.specs.Words.{spelled, Accepts, IsAccepted, RefusedAt};
 ghost use Rattle.top_run.specs.declared.command.Ring.{Ring};
@@ -103,6 +103,7 @@ pub fn plain<F: Files, K: Sink, E: Sink, L: Ledger>(
     ensures write { IfSome result (λ s. s.0 ≡ 6 → (ring : Ring) × Accepts (spelled words.now) ring × Rose (K.faults out.old) (K.faults out.new) × ((FailedBehind ring (K.told out.old) (K.told out.new) × Told write_line (E.told err.old) (E.told err.new) (E.faults err.old) (E.faults err.new)) ⊎ ((d : ℕ) × FailedAt ring (K.told out.old) (K.told out.new) d × Told (write_at_line d) (E.told err.old) (E.told err.new) (E.faults err.old) (E.faults err.new)))) }
     ensures memory { IfSome result (λ s. s.0 ≡ 8 → Told memory_line (E.told err.old) (E.told err.new) (E.faults err.old) (E.faults err.new)) }
     ensures unreported { IfSome result (λ s. s.0 ≡ 8 → (out.new ≡ out.old) ⊎ ((ring : Ring) × Accepts (spelled words.now) ring × Got (K.told out.old) (K.told out.new) (lines_for ring))) }
+    ensures lineless { (ring : Ring) → lines_for ring ≡ [] }
     ensures files { files.new ≡ files.old }
 {
     let status = match run_words(alloc, words, out, steps) {

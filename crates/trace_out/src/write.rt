@@ -27,7 +27,7 @@ fn write_record<K: Sink>(rec: &Record, names: &Names, sink: &mut K) -> Result<()
     sink.write(out_line(rec.at, name, byte).as_slice())
 }
 
-/// Writes the lines of these records in order, each in one write; without `all` only those of bytes that cores wrote.
+/// Writes the lines of these records in order; without `all` only those of bytes that cores wrote.
 /// After a fault a prefix of them was written. It takes no memory.
 pub fn write_records<K: Sink>(
     recs: &RecList,

@@ -1,12 +1,14 @@
-ghost use Rattle.std.specs.Prelude.{◌≡◌, ◌+◌, ◌*◌, ◌^◌, ◌<◌, ◌≤◌, ◌++◌, length, replicate, IfOk, All, AllPairs};
+ghost use Rattle.std.specs.Prelude.{◌≡◌, ◌+◌, ◌*◌, ◌^◌, ◌<◌, ◌≤◌, ◌++◌, length, replicate, slice_set, IfOk, All, AllPairs};
 ghost use Rattle.std.specs.Int.{w32, to_le_bytes};
+ghost use Rattle.tick_law.specs.Pass.{port_at};
 ghost use Rattle.port_msg.specs.RecView.{appended_all};
 ghost use Rattle.addr_map.specs.Range.{IsRange, Apart};
 ghost use Rattle.traffic_parts.specs.Agent.{IsAgent, agent_opening, is_answer, total_after, take_answer, write_request, read_request, request, is_open, is_ready, drawn, target, send_request, agent};
 
 use crate::draw::{address_of, value_after, writes};
 use addr_map::{AddrMap, Ranges};
-use port_msg::{DATA_BYTES, Msg, MsgId, MsgKind, Port, RecList, What};
+use port_msg::{DATA_BYTES, Msg, MsgId, MsgKind, RecList, What};
+use port_row::Ports;
 use sim_base::{ActorNo, Mode, OutOfMemory, PartNo, PortNo, Steps};
 use std::alloc::Global;
 use std::marker::Model;
@@ -265,21 +267,22 @@ impl Agent {
     }
 
     /// Where fewer are answered than issued and an answer is at the head, it is taken.
-    fn take_answer(&mut self, port: &mut Port, recs: &mut RecList) -> bool
-        requires { length recs.old.items < recs.old.room }
+    fn take_answer(&mut self, ports: &mut Ports, recs: &mut RecList) -> bool
+        requires port { 0 < length ports.old.ports }
+        requires room { length recs.old.items < recs.old.room }
 
-        ensures state { self.new ≡ (take_answer self.old port.old).state }
-        ensures port { port.new ≡ (take_answer self.old port.old).port }
-        ensures records { recs.new ≡ appended_all recs.old (take_answer self.old port.old).records }
-        ensures flag { result ≡ (take_answer self.old port.old).flag }
+        ensures state { self.new ≡ (take_answer self.old (port_at ports.old.ports 0)).state }
+        ensures port { ports.new ≡ record ports.old { ports = slice_set ports.old.ports 0 (take_answer self.old (port_at ports.old.ports 0)).port } }
+        ensures records { recs.new ≡ appended_all recs.old (take_answer self.old (port_at ports.old.ports 0)).records }
+        ensures flag { result ≡ (take_answer self.old (port_at ports.old.ports 0)).flag }
     {
-        let Some(msg) = port.in_head() else {
+        let Some(msg) = ports.in_head(0) else {
             return false;
         };
         if self.answered >= self.issued || !is_answer(msg.kind, msg.len) {
             return false;
         }
-        let _ = port.in_take();
+        let _ = ports.in_take(0);
         recs.push(What::Take(msg));
         self.answered += 1;
         self.total = total_after(self.total, &msg);
@@ -300,14 +303,15 @@ impl Agent {
 
     /// Where it is ready, its map has a port for the drawn address and there is room, it sends a request there.
     #[tactic(auto, using(crate::specs::AgentLaws::ready_issued))]
-    fn send_request(&mut self, port: &mut Port, cycle: u64, recs: &mut RecList) -> bool
+    fn send_request(&mut self, ports: &mut Ports, cycle: u64, recs: &mut RecList) -> bool
+        requires port { 0 < length ports.old.ports }
         requires room { length recs.old.items < recs.old.room }
         requires time { cycle * self.old.period ≤ 501000000000 }
 
-        ensures state { self.new ≡ (send_request cycle self.old port.old).state }
-        ensures port { port.new ≡ (send_request cycle self.old port.old).port }
-        ensures records { recs.new ≡ appended_all recs.old (send_request cycle self.old port.old).records }
-        ensures flag { result ≡ (send_request cycle self.old port.old).flag }
+        ensures state { self.new ≡ (send_request cycle self.old (port_at ports.old.ports 0)).state }
+        ensures port { ports.new ≡ record ports.old { ports = slice_set ports.old.ports 0 (send_request cycle self.old (port_at ports.old.ports 0)).port } }
+        ensures records { recs.new ≡ appended_all recs.old (send_request cycle self.old (port_at ports.old.ports 0)).records }
+        ensures flag { result ≡ (send_request cycle self.old (port_at ports.old.ports 0)).flag }
     {
         if !self.is_ready(cycle) {
             return false;
@@ -317,7 +321,7 @@ impl Agent {
         };
         let value = self.drawn();
         let request = self.request(value, dst);
-        if port.send(request).is_err() {
+        if ports.send(0, request).is_err() {
             return false;
         }
         recs.push(What::Send(request));
@@ -335,15 +339,14 @@ impl Actor for Agent {
 
     fn tick<L: Ledger>(
         &mut self,
-        ports: &mut [Port],
+        ports: &mut Ports,
         cycle: u64,
         recs: &mut RecList,
         steps: &mut Steps<L>,
     ) -> bool {
         steps.charge();
-        let port = &mut ports[0];
-        let took = self.take_answer(port, recs);
-        let sent = self.send_request(port, cycle, recs);
+        let took = self.take_answer(ports, recs);
+        let sent = self.send_request(ports, cycle, recs);
         took || sent
     }
 

@@ -1,9 +1,11 @@
-ghost use Rattle.std.specs.Prelude.{◌≡◌, ◌<◌, ◌≤◌, ◌-◌, length, is_none};
+ghost use Rattle.std.specs.Prelude.{◌≡◌, ◌<◌, ◌≤◌, ◌-◌, length, is_none, slice_set};
 ghost use Rattle.std.specs.Option.{ForSome};
+ghost use Rattle.tick_law.specs.Pass.{port_at};
 ghost use Rattle.port_msg.specs.RecView.{appended_all};
 ghost use Rattle.traffic_parts.specs.Relay.{RelayState, IsRelay, token, send_held, take_token, relay, opening};
 
-use port_msg::{DATA_BYTES, Msg, MsgId, MsgKind, Port, RecList, What};
+use port_msg::{DATA_BYTES, Msg, MsgId, MsgKind, RecList, What};
+use port_row::Ports;
 use sim_base::{ActorNo, OutOfMemory, PartNo, PortNo, Steps};
 use std::alloc::Global;
 use std::marker::Model;
@@ -107,19 +109,20 @@ impl Relay {
     }
 
     /// Where it holds a token and has room, it sends it with one hop less and holds none.
-    fn send_held(&mut self, port: &mut Port, recs: &mut RecList) -> bool
-        requires { length recs.old.items < recs.old.room }
+    fn send_held(&mut self, ports: &mut Ports, recs: &mut RecList) -> bool
+        requires port { 0 < length ports.old.ports }
+        requires room { length recs.old.items < recs.old.room }
 
-        ensures state { self.new ≡ (send_held self.old port.old).state }
-        ensures port { port.new ≡ (send_held self.old port.old).port }
-        ensures records { recs.new ≡ appended_all recs.old (send_held self.old port.old).records }
-        ensures flag { result ≡ (send_held self.old port.old).flag }
+        ensures state { self.new ≡ (send_held self.old (port_at ports.old.ports 0)).state }
+        ensures port { ports.new ≡ record ports.old { ports = slice_set ports.old.ports 0 (send_held self.old (port_at ports.old.ports 0)).port } }
+        ensures records { recs.new ≡ appended_all recs.old (send_held self.old (port_at ports.old.ports 0)).records }
+        ensures flag { result ≡ (send_held self.old (port_at ports.old.ports 0)).flag }
     {
         let Some(hops) = self.holds else {
             return false;
         };
         let msg = self.token(hops);
-        if port.send(msg).is_err() {
+        if ports.send(0, msg).is_err() {
             return false;
         }
         recs.push(What::Send(msg));
@@ -129,24 +132,25 @@ impl Relay {
     }
 
     /// Where it holds none and a token is at the head, it takes it: one of no hops has ended, another is held.
-    fn take_token(&mut self, port: &mut Port, recs: &mut RecList) -> bool
-        requires { length recs.old.items < recs.old.room }
+    fn take_token(&mut self, ports: &mut Ports, recs: &mut RecList) -> bool
+        requires port { 0 < length ports.old.ports }
+        requires room { length recs.old.items < recs.old.room }
 
-        ensures state { self.new ≡ (take_token self.old port.old).state }
-        ensures port { port.new ≡ (take_token self.old port.old).port }
-        ensures records { recs.new ≡ appended_all recs.old (take_token self.old port.old).records }
-        ensures flag { result ≡ (take_token self.old port.old).flag }
+        ensures state { self.new ≡ (take_token self.old (port_at ports.old.ports 0)).state }
+        ensures port { ports.new ≡ record ports.old { ports = slice_set ports.old.ports 0 (take_token self.old (port_at ports.old.ports 0)).port } }
+        ensures records { recs.new ≡ appended_all recs.old (take_token self.old (port_at ports.old.ports 0)).records }
+        ensures flag { result ≡ (take_token self.old (port_at ports.old.ports 0)).flag }
     {
         if self.holds.is_some() {
             return false;
         }
-        let Some(msg) = port.in_head() else {
+        let Some(msg) = ports.in_head(0) else {
             return false;
         };
         let MsgKind::Token = msg.kind else {
             return false;
         };
-        let _ = port.in_take();
+        let _ = ports.in_take(0);
         recs.push(What::Take(msg));
         if msg.addr == 0 {
             self.ended = self.ended.saturating_add(1);
@@ -166,15 +170,14 @@ impl Actor for Relay {
 
     fn tick<L: Ledger>(
         &mut self,
-        ports: &mut [Port],
+        ports: &mut Ports,
         _cycle: u64,
         recs: &mut RecList,
         steps: &mut Steps<L>,
     ) -> bool {
         steps.charge();
-        let port = &mut ports[0];
-        let sent = self.send_held(port, recs);
-        let took = self.take_token(port, recs);
+        let sent = self.send_held(ports, recs);
+        let took = self.take_token(ports, recs);
         sent || took
     }
 

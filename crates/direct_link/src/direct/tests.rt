@@ -1,7 +1,7 @@
 ghost use Rattle.std.specs.Prelude.{◌≡◌, ◌<◌, IfOk, length};
 
 use super::*;
-use port_msg::{DATA_BYTES, Msg, MsgId, MsgKind};
+use port_msg::{DATA_BYTES, Msg, MsgId, MsgKind, Port};
 use sim_base::{PartNo, PortNo};
 use std::marker::Brand;
 use std::sync::ledger::Blank;
@@ -44,6 +44,16 @@ fn open_link(alloc: Global) -> Result<Direct, OutOfMemory>
     Direct::open(alloc, &text)
 }
 
+/// A row of two ports with room for two messages each.
+fn open_row(alloc: Global) -> Result<Ports, OutOfMemory>
+    ensures { IfOk result (λ row. length row.ports ≡ 2) }
+{
+    let mut ports = Vec::new(alloc);
+    ports.push(Port::open(alloc, 2)?)?;
+    ports.push(Port::open(alloc, 2)?)?;
+    Ports::open(alloc, ports)
+}
+
 /// A step in which port 3 has sent to these two, where port 8 has room for one message more.
 fn step<L: Ledger>(
     alloc: Global,
@@ -57,15 +67,15 @@ fn step<L: Ledger>(
 {
     let mut steps = Steps::<L>::open(blank);
     let mut link = open_link(alloc)?;
-    let mut ports = [Port::open(alloc, 2)?, Port::open(alloc, 2)?];
-    let _ = ports[1].deliver(token(8));
-    let _ = ports[0].send(token(first));
-    let _ = ports[0].send(token(second));
+    let mut ports = open_row(alloc)?;
+    let _ = ports.deliver(1, token(8));
+    let _ = ports.send(0, token(first));
+    let _ = ports.send(0, token(second));
     let mut recs = RecList::open(alloc, 128)?;
     let _ = link.tick(&mut ports, 0, &mut recs, &mut steps);
     Ok(After {
-        first_room: ports[0].in_room(),
-        second_room: ports[1].in_room(),
+        first_room: ports.in_room(0),
+        second_room: ports.in_room(1),
         moved: link.moved(),
         pointer: link.pointer(),
     })

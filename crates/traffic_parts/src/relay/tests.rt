@@ -1,7 +1,8 @@
-ghost use Rattle.std.specs.Prelude.{◌≡◌, ◌<◌, ◌≤◌};
+ghost use Rattle.std.specs.Prelude.{◌≡◌, ◌<◌, ◌≤◌, length, IfOk};
 ghost use Rattle.std.specs.Option.{ForSome};
 
 use super::*;
+use port_msg::Port;
 use std::marker::Brand;
 use std::sync::ledger::Blank;
 
@@ -35,6 +36,15 @@ fn open_relay(alloc: Global, hops: u32) -> Result<Relay, OutOfMemory> {
     Relay::open(alloc, &text)
 }
 
+/// A row of one port with room for one message.
+fn open_row(alloc: Global) -> Result<Ports, OutOfMemory>
+    ensures { IfOk result (λ row. length row.ports ≡ 1) }
+{
+    let mut ports = Vec::new(alloc);
+    ports.push(Port::open(alloc, 1)?)?;
+    Ports::open(alloc, ports)
+}
+
 fn token(hops: u32) -> Msg {
     let id = MsgId {
         part: PartNo(1),
@@ -59,12 +69,12 @@ fn step<L: Ledger>(alloc: Global, blank: Blank, hops: u32, head: u32) -> Result<
 {
     let mut steps = Steps::<L>::open(blank);
     let mut relay = open_relay(alloc, hops)?;
-    let mut ports = [Port::open(alloc, 1)?];
-    let _ = ports[0].deliver(token(head));
+    let mut ports = open_row(alloc)?;
+    let _ = ports.deliver(0, token(head));
     let mut recs = RecList::open(alloc, 64)?;
     let _ = relay.tick(&mut ports, 0, &mut recs, &mut steps);
     Ok(After {
-        out: ports[0].out_head().map(|msg| msg.addr),
+        out: ports.out_head(0).map(|msg| msg.addr),
         holds: relay.holds(),
         sent: relay.sent(),
         ended: relay.ended(),

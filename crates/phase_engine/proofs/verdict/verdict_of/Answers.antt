@@ -1,15 +1,14 @@
-use Rattle.std.proofs.Common.{false, ap, refl, sym, ◌∙◌}
-use Rattle.tick_law.specs.WorldPlaces.{somes}
+use Rattle.std.proofs.Common.{false, ap, refl, ◌∙◌}
 use Rattle.tick_law.specs.Verdict.{all_done, verdict_by}
-use Rattle.phase_engine.proofs.TimesLaws.{both_none, either_some}
+use Rattle.phase_engine.proofs.EngineLaws.{cut_here, rest_here}
 use Rattle.phase_engine.proofs.verdict.verdict_of.Goals as goal
 
 pub returns-in-Some : goal.returns-in-Some
 returns-in-Some g c =
     let there = c.in-Some.ensures.first.there in
-    sym (ap (λ b. verdict_by b (all_done g.P.Actor.machine (somes c.args.parts.now))) (either_some c.args.base c.args.links there.0 _ c.args.next.now c.requires.all there.1))
+    cut_here g.P.Actor.machine g.N.Actor.machine g.P.Actor.valid g.N.Actor.valid g.C.Charter.plan g.C.Charter.start c.args.run.now there.0 _ c.requires.run c.requires.over there.1
 
-pub returns-in-None : goal.returns-in-None
-returns-in-None g c =
-    let none = both_none c.args.base c.args.links c.args.next.now (c.in-None.ensures.none.0 refl) in
-    c.verdict_at_rest.ensures ∙ ap (verdict_by false) c.are_done.ensures ∙ sym (ap (λ b. verdict_by b (all_done g.P.Actor.machine (somes c.args.parts.now))) none)
+pub returns : goal.returns
+returns g c =
+    c.verdict_at_rest.ensures ∙ ap (verdict_by false) (c.are_done.ensures ∙ ap (all_done g.P.Actor.machine) c.deref.ensures.value)
+    ∙ rest_here g.P.Actor.machine g.N.Actor.machine g.P.Actor.valid g.N.Actor.valid g.C.Charter.plan g.C.Charter.start c.args.run.now c.requires.run c.requires.over (c.in-None.ensures.none.0 refl)

@@ -1,7 +1,8 @@
 use Rattle.std.proofs.Common.{◌≡◌, ℕ, ◌+◌, IfOk, OnOk, ap, ◌∙◌, subst}
-use Rattle.tick_law.specs.SerialLoop.{System, WorldState, world_at, whole_world, edges_below}
+use Rattle.tick_law.specs.SerialLoop.{System, WorldState, world_at, edges_below}
 use Rattle.tick_law.specs.Verdict.{verdict_at}
 use Rattle.tick_law.specs.declared.verdict.Verdict.{Verdict}
+use Rattle.port_rows.specs.World.{state_of}
 use Rattle.part_kind.specs.declared.part.Part.{Part}
 use Rattle.part_kind.specs.declared.link_kind.LinkKind.{LinkKind}
 use Rattle.ring_rows.specs.Lone.{lone}
@@ -12,7 +13,7 @@ pub returns-clause-world : goal.returns-clause-world
 returns-clause-world g c =
     let plan = c.in_ok-plan.plan in
     let same = ap (λ (s : System Part LinkKind). world_at s (plan.until + 1)) c.in_ok-plan.ensures.system ∙ ap (λ n. world_at lone (n + 1)) c.in_ok-plan.ensures.until ∙ world_1 in
-    subst (λ (w : WorldState Part LinkKind). IfOk c.run_serial.result (λ e. e.world ≡ whole_world w)) same c.run_serial.ensures.world
+    subst (λ (w : WorldState Part LinkKind). IfOk c.run_serial.result (λ e. state_of e.world ≡ w)) same c.run_serial.ensures.world
 
 pub returns-clause-verdict : goal.returns-clause-verdict
 returns-clause-verdict g c =

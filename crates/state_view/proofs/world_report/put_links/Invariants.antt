@@ -1,7 +1,6 @@
 use Rattle.std.proofs.Common.{◌≡◌, ◌++◌, take}
-use Rattle.tick_law.specs.WorldPlaces.{somes}
 use Rattle.state_view.specs.Report.{lines_of, link_line}
 use Rattle.state_view.proofs.world_report.put_links.Given as goal
 
 abbrev pub invariant-loop-no : goal.invariant-loop-no
-invariant-loop-no l = l.text ≡ l.fn.text ++ lines_of link_line (take l.no l.names) (take l.no (somes l.links))
+invariant-loop-no l = l.text ≡ l.fn.text ++ lines_of link_line (take l.no l.names) (take l.no l.links)

@@ -1,42 +1,34 @@
 use Rattle.std.proofs.Common.{◌≡◌, ◌+◌, ◌≤◌, Err, false, length, inr, sym, ◌∙◌, ap, subst}
-use Rattle.tick_law.specs.SerialLoop.{world_at, whole_world, world_of}
+use Rattle.port_rows.specs.World.{state_of}
+use Rattle.tick_law.specs.SerialLoop.{WorldState, world_at}
 use Rattle.tick_law.specs.PlanView.{system_of}
-use Rattle.tick_law.specs.WorldPlaces.{IsWhole}
 use Rattle.tick_law.specs.Verdict.{verdict_at, end_at}
-use Rattle.model_laws.specs.Runs.{world-whole, whole_is_whole}
 use Rattle.part_kind.specs.Part.{part}
 use Rattle.part_kind.specs.LinkKind.{link}
 use Rattle.ring_plan.specs.Ring.{ring_system}
 use Rattle.sim_io.specs.Sink.{Got, GotPrefix}
 use Rattle.tick_law.specs.SerialLoop.{records_below}
 use Rattle.trace_out.specs.Lines.{lines_of}
-use Rattle.phase_engine.specs.PlanNames.{names_of}
-use Rattle.phase_engine.specs.declared.plan_run.RunFault.TheVariants.{Trace}
+use Rattle.run_gear.specs.PlanNames.{names_of}
+use Rattle.run_gear.specs.declared.fault.RunFault.TheVariants.{Trace}
 use Rattle.top_run.specs.Top.{FailedAt}
 use Rattle.top_run.proofs.Shown.{part_count, link_count, report_same}
 use Rattle.top_run.proofs.Telling.{ap_at}
 use Rattle.top_run.proofs.run.run_ring.Goals as goal
 
-pub report-requires-clause-whole : goal.report-requires-clause-whole
-report-requires-clause-whole g c =
-    let n = c.args.ring.relays in
-    let until = c.args.ring.until.0 in
-    let world_is : c.in-Ok.ending.world ≡ whole_world (world_at (ring_system n until) (until + 1)) = subst (λ p. c.in-Ok.ending.world ≡ whole_world (world_at (system_of part link p) (p.until + 1))) c.in_ok-plan.ensures c.in-Ok.ensures.world in
-    subst (λ w. IsWhole w) (sym world_is) (whole_is_whole (world_at (ring_system n until) (until + 1)))
-
 pub report-requires-clause-parts : goal.report-requires-clause-parts
 report-requires-clause-parts g c =
     let n = c.args.ring.relays in
     let until = c.args.ring.until.0 in
-    let world_is : c.in-Ok.ending.world ≡ whole_world (world_at (ring_system n until) (until + 1)) = subst (λ p. c.in-Ok.ending.world ≡ whole_world (world_at (system_of part link p) (p.until + 1))) c.in_ok-plan.ensures c.in-Ok.ensures.world in
-    ap (λ l. length l) (c.deref.ensures.value ∙ c.in_ok-part_names.ensures) ∙ part_count n until (until + 1) ∙ sym (ap (λ w. length w.parts) world_is)
+    let world_is : state_of c.in-Ok.ending.world ≡ world_at (ring_system n until) (until + 1) = subst (λ p. state_of c.in-Ok.ending.world ≡ world_at (system_of part link p) (p.until + 1)) c.in_ok-plan.ensures c.in-Ok.ensures.world in
+    ap (λ l. length l) (c.deref.ensures.value ∙ c.in_ok-part_names.ensures) ∙ part_count n until (until + 1) ∙ sym (ap (λ (w : WorldState _ _). length w.parts) world_is)
 
 pub report-requires-clause-links : goal.report-requires-clause-links
 report-requires-clause-links g c =
     let n = c.args.ring.relays in
     let until = c.args.ring.until.0 in
-    let world_is : c.in-Ok.ending.world ≡ whole_world (world_at (ring_system n until) (until + 1)) = subst (λ p. c.in-Ok.ending.world ≡ whole_world (world_at (system_of part link p) (p.until + 1))) c.in_ok-plan.ensures c.in-Ok.ensures.world in
-    ap (λ l. length l) (c.deref-2.ensures.value ∙ c.in_ok-link_names.ensures) ∙ link_count n until (until + 1) ∙ sym (ap (λ w. length w.links) world_is)
+    let world_is : state_of c.in-Ok.ending.world ≡ world_at (ring_system n until) (until + 1) = subst (λ p. state_of c.in-Ok.ending.world ≡ world_at (system_of part link p) (p.until + 1)) c.in_ok-plan.ensures c.in-Ok.ensures.world in
+    ap (λ l. length l) (c.deref-2.ensures.value ∙ c.in_ok-link_names.ensures) ∙ link_count n until (until + 1) ∙ sym (ap (λ (w : WorldState _ _). length w.links) world_is)
 
 pub returns-clause-verdict : goal.returns-clause-verdict
 returns-clause-verdict g c =
@@ -46,10 +38,10 @@ pub returns-clause-report : goal.returns-clause-report
 returns-clause-report g c =
     let n = c.args.ring.relays in
     let until = c.args.ring.until.0 in
-    let world_is : c.in-Ok.ending.world ≡ whole_world (world_at (ring_system n until) (until + 1)) = subst (λ p. c.in-Ok.ending.world ≡ whole_world (world_at (system_of part link p) (p.until + 1))) c.in_ok-plan.ensures c.in-Ok.ensures.world in
+    let world_is : state_of c.in-Ok.ending.world ≡ world_at (ring_system n until) (until + 1) = subst (λ p. state_of c.in-Ok.ending.world ≡ world_at (system_of part link p) (p.until + 1)) c.in_ok-plan.ensures c.in-Ok.ensures.world in
     let verdict_is : c.in-Ok.ending.verdict ≡ verdict_at (ring_system n until) until = subst (λ p. c.in-Ok.ending.verdict ≡ verdict_at (system_of part link p) p.until) c.in_ok-plan.ensures c.in-Ok.ensures.verdict in
     let end_is : c.in-Ok.ending.end.0 ≡ end_at (ring_system n until) until = subst (λ p. c.in-Ok.ending.end.0 ≡ end_at (system_of part link p) p.until) c.in_ok-plan.ensures c.in-Ok.ensures.end in
-    c.in_ok-report.ensures ∙ report_same _ _ _ _ until _ _ _ _ _ _ (c.deref.ensures.value ∙ c.in_ok-part_names.ensures) (c.deref-2.ensures.value ∙ c.in_ok-link_names.ensures) (ap (λ w. world_of w) world_is ∙ world-whole (world_at (ring_system n until) (until + 1))) verdict_is end_is
+    c.in_ok-report.ensures ∙ report_same _ _ _ _ until _ _ _ _ _ _ (c.deref.ensures.value ∙ c.in_ok-part_names.ensures) (c.deref-2.ensures.value ∙ c.in_ok-link_names.ensures) world_is verdict_is end_is
 
 pub returns-clause-lines : goal.returns-clause-lines
 returns-clause-lines g c =

@@ -1,6 +1,9 @@
-use Rattle.std.proofs.Common.{◌≡◌, Err, take, inl, sym, ap}
+use Rattle.std.proofs.Common.{◌≡◌, ◌+◌, Err, take, inl, sym, ap, refl}
+use Rattle.run_gear.specs.PlanNames.{names_of}
+use Rattle.ring_plan.specs.Ring.{ring_plan, ring_system}
 use Rattle.top_run.specs.Words.{spelled}
 use Rattle.top_run.proofs.Spelling.{completed}
+use Rattle.top_run.proofs.Lineless.{no_lines}
 use Rattle.top_run.specs.declared.refusal.Refusal.TheVariants.{Usage}
 use Rattle.top_run.proofs.top.plain.Goals as goal
 
@@ -30,3 +33,18 @@ returns-in-Err-Usage-clause-unreported g c = λ eight.
     let is : c.run_words.result ≡ Err (Usage c.in-Err-Usage.word) = cc in
     let refused = c.run_words.ensures.usage c.in-Err-Usage.word is in
     inl refused.1
+
+pub returns-in-Ok-clause-lineless : goal.returns-in-Ok-clause-lineless
+returns-in-Ok-clause-lineless g c = λ ring. no_lines (ring_system ring.relays ring.until.0) (names_of (ring_plan ring.relays ring.until.0)) (ring.until.0 + 1) refl refl
+
+pub returns-in-Err-Usage-clause-lineless : goal.returns-in-Err-Usage-clause-lineless
+returns-in-Err-Usage-clause-lineless g c = λ ring. no_lines (ring_system ring.relays ring.until.0) (names_of (ring_plan ring.relays ring.until.0)) (ring.until.0 + 1) refl refl
+
+pub returns-in-Err-WriteAt-clause-lineless : goal.returns-in-Err-WriteAt-clause-lineless
+returns-in-Err-WriteAt-clause-lineless g c = λ ring. no_lines (ring_system ring.relays ring.until.0) (names_of (ring_plan ring.relays ring.until.0)) (ring.until.0 + 1) refl refl
+
+pub returns-in-Err-Write-clause-lineless : goal.returns-in-Err-Write-clause-lineless
+returns-in-Err-Write-clause-lineless g c = λ ring. no_lines (ring_system ring.relays ring.until.0) (names_of (ring_plan ring.relays ring.until.0)) (ring.until.0 + 1) refl refl
+
+pub returns-in-Err-OutOfMemory-clause-lineless : goal.returns-in-Err-OutOfMemory-clause-lineless
+returns-in-Err-OutOfMemory-clause-lineless g c = λ ring. no_lines (ring_system ring.relays ring.until.0) (names_of (ring_plan ring.relays ring.until.0)) (ring.until.0 + 1) refl refl

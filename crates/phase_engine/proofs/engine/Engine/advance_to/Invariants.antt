@@ -1,4 +1,4 @@
 use Rattle.phase_engine.proofs.engine.Engine.advance_to.Given as goal
 
-abbrev pub ghosts-advance_counted : goal.ghosts-advance_counted
-ghosts-advance_counted g a = record { name = a.blank.name; parts = a.blank.parts }
+abbrev pub ghosts-advance_due : goal.ghosts-advance_due
+ghosts-advance_due g a = record { name = a.blank.name; parts = a.blank.parts }

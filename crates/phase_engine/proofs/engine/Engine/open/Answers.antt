@@ -1,34 +1,18 @@
-use Rattle.std.proofs.Common.{◌≡◌, length, ap, subst, ◌∙◌, arith, refl}
-use Rattle.tick_law.specs.PlanView.{PlanView}
-use Rattle.serial_loop.specs.IsOpened.{IsOpened}
-use Rattle.phase_engine.specs.PlanNames.{names_of}
-use Rattle.phase_engine.proofs.OpenLaws.{at_start}
+use Rattle.std.proofs.Common.{ap, subst, ◌∙◌}
+use Rattle.tick_law.specs.SerialLoop.{world_at}
+use Rattle.tick_law.specs.PlanView.{system_from}
+use Rattle.phase_engine.specs.RunGear.{AreNextTimes}
+use Rattle.phase_engine.proofs.EngineLaws.{world_is}
 use Rattle.phase_engine.proofs.engine.Engine.open.Goals as goal
 
-pub invariant_of-result : goal.invariant_of-result
-invariant_of-result g c =
-    let mp = g.P.Actor.machine in
-    let mn = g.N.Actor.machine in
-    let plan = g.C.Charter.plan in
-    let opened : IsOpened mp mn g.P.Actor.valid g.N.Actor.valid plan c.in_ok-world.field-0 = subst (λ (p : PlanView _ _). IsOpened mp mn g.P.Actor.valid g.N.Actor.valid p c.in_ok-world.field-0) c.requires c.in_ok-world.ensures in
-    let view = c.plan.view_is ∙ c.requires in
-    record {
-      gear_is = c.in_ok-gear.ensures.gear;
-      at_is = at_start mp mn g.P.Actor.valid g.N.Actor.valid plan c.in_ok-world.field-0 c.in_ok-gear.gear.next opened c.in_ok-gear.ensures.times;
-      within = omega arith;
-      end_is = refl;
-      names_are = c.in_ok-names.ensures ∙ ap (λ (p : PlanView _ _). names_of p) c.requires;
-      part_names = subst (λ (p : PlanView _ _). length p.part_names ≡ length p.parts) view c.plan.invariant.part_names;
-      link_names = subst (λ (p : PlanView _ _). length p.link_names ≡ length p.links) view c.plan.invariant.link_names;
-      base_is = opened.base_is;
-      until_is = opened.until_is;
-      until_within = opened.until_within;
-    }
+pub returns-clause-world : goal.returns-clause-world
+returns-clause-world g c =
+    let r = system_from g.P.Actor.machine g.N.Actor.machine g.C.Charter.plan g.C.Charter.start in
+    world_is g.P.Actor.machine g.N.Actor.machine g.P.Actor.valid g.N.Actor.valid g.C.Charter.plan g.C.Charter.start c.in_ok-run.run' c.in_ok-run.ensures.run
+    ∙ ap (world_at r) c.in_ok-run.ensures.boundary
 
-pub returns-clause-at : goal.returns-clause-at
-returns-clause-at g c =
-    let mp = g.P.Actor.machine in
-    let mn = g.N.Actor.machine in
-    let plan = g.C.Charter.plan in
-    let opened : IsOpened mp mn g.P.Actor.valid g.N.Actor.valid plan c.in_ok-world.field-0 = subst (λ (p : PlanView _ _). IsOpened mp mn g.P.Actor.valid g.N.Actor.valid p c.in_ok-world.field-0) c.requires c.in_ok-world.ensures in
-    at_start mp mn g.P.Actor.valid g.N.Actor.valid plan c.in_ok-world.field-0 c.in_ok-gear.gear.next opened c.in_ok-gear.ensures.times
+pub returns-clause-times : goal.returns-clause-times
+returns-clause-times g c =
+    let r = system_from g.P.Actor.machine g.N.Actor.machine g.C.Charter.plan g.C.Charter.start in
+    let at = c.in_ok-run.ensures.run.at_is in
+    subst (λ d. AreNextTimes r d c.in_ok-run.run'.gear.next) c.in_ok-run.ensures.boundary (record { parts_are = at.parts_are; links_are = at.links_are })

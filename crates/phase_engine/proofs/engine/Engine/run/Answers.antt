@@ -1,35 +1,49 @@
-use Rattle.std.proofs.Common.{◌≡◌, ◌+◌, ap, subst, ◌∙◌}
+use Rattle.std.proofs.Common.{◌≡◌, ◌+◌, ap, subst, ◌∙◌, true, false}
+use Rattle.std.specs.Prelude.{Bool}
 use Rattle.sim_io.specs.Sink.{Got, GotPrefix}
 use Rattle.tick_law.specs.SerialLoop.{records_below}
-use Rattle.tick_law.specs.PlanView.{system_of}
-use Rattle.tick_law.specs.Verdict.{verdict_at}
+use Rattle.tick_law.specs.PlanView.{system_from}
 use Rattle.trace_out.specs.Lines.{lines_of}
+use Rattle.run_gear.specs.PlanNames.{names_of}
 use Rattle.phase_engine.specs.Engine.{EngineView}
-use Rattle.phase_engine.specs.PlanNames.{names_of}
-use Rattle.phase_engine.proofs.RunLaws.{from_beginning}
+use Rattle.phase_engine.proofs.RunLaws.{from_beginning, awake_then}
+use Rattle.phase_engine.proofs.EngineLaws.{world_is}
 use Rattle.phase_engine.proofs.engine.Engine.run.Goals as goal
 
-pub returns-then-reached-clause-prefix : goal.returns-then-reached-clause-prefix
-returns-then-reached-clause-prefix g c =
-    let r = system_of g.P.Actor.machine g.N.Actor.machine g.C.Charter.plan in
-    let at : c.self.inside.at ≡ 0 = ap (λ (e : EngineView _ _). e.at) c.self.view_is ∙ c.requires.beginning in
-    let upto = c.run_counted-reached.result.upto in
-    let wrote = c.run_counted-reached.ensures.prefix c.if-reached.true in
-    subst (λ n. GotPrefix (g.K.Sink.told c.args.sink.now) (g.K.Sink.told c.run_counted-reached.new.sink) (lines_of n c.args.all (records_below r upto))) c.self.invariant.names_are
-    (subst (λ l. GotPrefix (g.K.Sink.told c.args.sink.now) (g.K.Sink.told c.run_counted-reached.new.sink) (lines_of c.self.inside.names c.args.all l)) (from_beginning r c.self.inside.at upto at) wrote.1)
+pub returns-then-not-run_due-clause-prefix : goal.returns-then-not-run_due-clause-prefix
+returns-then-not-run_due-clause-prefix g c =
+    let r = system_from g.P.Actor.machine g.N.Actor.machine g.C.Charter.plan g.C.Charter.start in
+    let from = c.self.inside.run.at in
+    let at : from ≡ g.C.Charter.start.at = ap (λ (e : EngineView _ _). e.at) c.self.view_is ∙ c.requires.beginning in
+    let new = c.run_due.new in
+    subst (λ l. GotPrefix (g.K.Sink.told c.args.sink.now) (g.K.Sink.told new.sink) (lines_of (names_of g.C.Charter.plan) c.args.all l))
+    (from_beginning r from new.run.at at c.run_due.ensures.onward) (c.run_due.ensures.prefix c.if-not-run_due.true)
+
+pub returns-then-not-run_due-clause-world : goal.returns-then-not-run_due-clause-world
+returns-then-not-run_due-clause-world g c = world_is g.P.Actor.machine g.N.Actor.machine g.P.Actor.valid g.N.Actor.valid g.C.Charter.plan g.C.Charter.start c.run_due.new.run c.run_due.ensures.run
+
+pub returns-then-not-run_due-clause-steps : goal.returns-then-not-run_due-clause-steps
+returns-then-not-run_due-clause-steps g c =
+    let r = system_from g.P.Actor.machine g.N.Actor.machine g.C.Charter.plan g.C.Charter.start in
+    let at : c.self.inside.run.at ≡ g.C.Charter.start.at = ap (λ (e : EngineView _ _). e.at) c.self.view_is ∙ c.requires.beginning in
+    awake_then r c.self.inside.run.at c.run_due.new.run.at c.args.steps.now c.run_due.new.steps at c.run_due.ensures.steps
 
 pub returns-clause-lines : goal.returns-clause-lines
 returns-clause-lines g c =
-    let r = system_of g.P.Actor.machine g.N.Actor.machine g.C.Charter.plan in
-    let at : c.self.inside.at ≡ 0 = ap (λ (e : EngineView _ _). e.at) c.self.view_is ∙ c.requires.beginning in
-    let until = c.self.inside.until in
-    let wrote = c.run_counted-reached.ensures.whole c.if-reached.false in
-    let here : Got (g.K.Sink.told c.args.sink.now) (g.K.Sink.told c.run_counted-reached.new.sink) (lines_of (names_of g.C.Charter.plan) c.args.all (records_below r (until + 1))) =
-    subst (λ n. Got (g.K.Sink.told c.args.sink.now) (g.K.Sink.told c.run_counted-reached.new.sink) (lines_of n c.args.all (records_below r (until + 1)))) c.self.invariant.names_are
-    (subst (λ l. Got (g.K.Sink.told c.args.sink.now) (g.K.Sink.told c.run_counted-reached.new.sink) (lines_of c.self.inside.names c.args.all l)) (from_beginning r c.self.inside.at (until + 1) at) wrote.1) in
-    subst (λ t. Got (g.K.Sink.told c.args.sink.now) (g.K.Sink.told c.run_counted-reached.new.sink) (lines_of (names_of g.C.Charter.plan) c.args.all (records_below r (t + 1)))) c.self.invariant.until_is here
+    let r = system_from g.P.Actor.machine g.N.Actor.machine g.C.Charter.plan g.C.Charter.start in
+    let from = c.self.inside.run.at in
+    let at : from ≡ g.C.Charter.start.at = ap (λ (e : EngineView _ _). e.at) c.self.view_is ∙ c.requires.beginning in
+    let new = c.run_due.new in
+    let ended : new.run.at ≡ g.C.Charter.plan.until + 1 = c.run_due.ensures.to_end c.if-not-run_due.false in
+    subst (λ d. Got (g.K.Sink.told c.args.sink.now) (g.K.Sink.told new.sink) (lines_of (names_of g.C.Charter.plan) c.args.all (records_below r d))) ended
+    (subst (λ l. Got (g.K.Sink.told c.args.sink.now) (g.K.Sink.told new.sink) (lines_of (names_of g.C.Charter.plan) c.args.all l))
+    (from_beginning r from new.run.at at c.run_due.ensures.onward) (c.run_due.ensures.whole c.if-not-run_due.false))
 
-pub returns-clause-verdict : goal.returns-clause-verdict
-returns-clause-verdict g c =
-    let r = system_of g.P.Actor.machine g.N.Actor.machine g.C.Charter.plan in
-    c.verdict_counted.ensures ∙ ap (verdict_at r) c.self.invariant.until_is
+pub returns-clause-world : goal.returns-clause-world
+returns-clause-world g c = world_is g.P.Actor.machine g.N.Actor.machine g.P.Actor.valid g.N.Actor.valid g.C.Charter.plan g.C.Charter.start c.run_due.new.run c.run_due.ensures.run
+
+pub returns-clause-steps : goal.returns-clause-steps
+returns-clause-steps g c =
+    let r = system_from g.P.Actor.machine g.N.Actor.machine g.C.Charter.plan g.C.Charter.start in
+    let at : c.self.inside.run.at ≡ g.C.Charter.start.at = ap (λ (e : EngineView _ _). e.at) c.self.view_is ∙ c.requires.beginning in
+    awake_then r c.self.inside.run.at c.run_due.new.run.at c.args.steps.now c.run_due.new.steps at c.run_due.ensures.steps

@@ -1,0 +1,3 @@
+pub mod WakingLaws
+pub mod ActLaws
+pub mod TurnLaws

@@ -1,0 +1,6 @@
+pub mod Side
+pub mod Turn
+pub mod Next
+pub mod Hit
+pub mod Waking
+pub mod Ready

@@ -1,0 +1,4 @@
+pub mod PassGlue
+pub mod InPass
+pub mod StaysLaws
+pub mod TimeLaws

@@ -1,0 +1,27 @@
+-- One actor's time is gone.
+use Rattle.std.proofs.Common.{◌<◌, length, set, None, ap, sym, ◌∙◌, arith}
+use Rattle.std.proofs.lemmas.List.{with_items_is}
+use Rattle.event_queue.specs.Places.{times_of}
+use Rattle.event_queue.proofs.TimesLemmas.{length-times_of, times_of-set}
+use Rattle.event_queue.proofs.time_heap.TimeHeap.clear.Goals as goal
+
+pub clear-requires-clause-known : goal.clear-requires-clause-known
+clear-requires-clause-known g c =
+    omega (arith, ap length c.self.view_is, length-times_of c.self.inside.row.pairs c.self.inside.places.items, c.requires, ap length c.deref_mut.ensures.value)
+
+pub returns-clause-cleared : goal.returns-clause-cleared
+returns-clause-cleared g c =
+    let was = c.self.inside.row.pairs in
+    let was_at = c.self.inside.places.items in
+    let now = c.clear.new.row.pairs in
+    let now_at = c.clear.new.places in
+    let who = c.args.who.0 in
+    let known : who < length was_at = omega (arith, ap length c.self.view_is, length-times_of was was_at, c.requires) in
+    let change = rw c.deref_mut.ensures.value at c.clear.ensures.cleared in
+    ap (times_of now) (with_items_is c.self.inside.places now_at (change.actors ∙ sym (ap length c.deref_mut.ensures.value) ∙ c.deref_mut.ensures.len))
+    ∙ times_of-set was now was_at now_at who _ known change
+    ∙ ap (λ times. set times who None) c.self.view_is
+
+pub returns-clause-cost : goal.returns-clause-cost
+returns-clause-cost g c =
+    λ b lt. c.clear.ensures.cost b (omega (arith, lt, ap length c.self.view_is, length-times_of c.self.inside.row.pairs c.self.inside.places.items, ap length c.deref_mut.ensures.value))

@@ -1,0 +1,6 @@
+pub mod LinkRows
+pub mod MemoryRows
+pub mod OutsideRows
+pub mod ReportRows
+pub mod RingRows
+pub mod TrafficRows

@@ -1,0 +1,7 @@
+pub mod Messages
+pub mod LinkRows
+pub mod MemoryRows
+pub mod OutsideRows
+pub mod ReportRows
+pub mod RingRows
+pub mod TrafficRows

@@ -1,0 +1,69 @@
+ghost use Rattle.std.specs.Prelude.{◌≡◌, ◌+◌, ◌<◌, ◌≤◌, true, false, is_some};
+ghost use Rattle.sim_io.specs.Sink.{Rose, Got, GotPrefix};
+ghost use Rattle.tick_law.specs.PlanView.{system_from};
+ghost use Rattle.tick_law.specs.Verdict.{awake_below};
+ghost use Rattle.trace_out.specs.Lines.{lines_of};
+ghost use Rattle.phase_engine.specs.Between.{records_between};
+ghost use Rattle.run_gear.specs.PlanNames.{names_of};
+ghost use Rattle.phase_engine.specs.Run.{IsRun};
+
+use crate::next_due::next_due;
+use crate::one_time::one_time;
+use crate::run::Run;
+use run_gear::later;
+use sim_base::Steps;
+use sim_io::Sink;
+use std::sync::ledger::{Blank, Ledger};
+use tick_law::{Actor, Charter};
+use trace_out::write_records;
+
+/// The times from the run's boundary on and up to its greatest time at which somebody is due, each with the lines of its records.
+/// The answer says whether all were written: else the run stands behind the time whose line failed. Looks at the heap are counted
+/// by a counter that is made of `blank`.
+pub fn run_due<P: Actor + Drop, N: Actor + Drop, C: Charter<P, N>, K: Sink, L: Ledger, M: Ledger>(
+    run: &mut Run<P, N>,
+    all: bool,
+    sink: &mut K,
+    steps: &mut Steps<L>,
+    blank: Blank,
+) -> bool
+    requires name { blank.name ≡ M.name }
+    requires parts { blank.parts ≡ M.parts }
+    requires some { 0 < blank.parts }
+    requires run { IsRun P.machine N.machine P.valid N.valid C.plan C.start run.old }
+    requires out_only { all ≡ false }
+
+    ensures run { IsRun P.machine N.machine P.valid N.valid C.plan C.start run.new }
+    ensures onward { run.old.at ≤ run.new.at }
+    ensures steps { steps.new + awake_below (system_from P.machine N.machine C.plan C.start) run.old.at ≡ steps.old + awake_below (system_from P.machine N.machine C.plan C.start) run.new.at }
+    ensures to_end { result ≡ true → run.new.at ≡ C.plan.until + 1 }
+    ensures whole { result ≡ true → Got (K.told sink.old) (K.told sink.new) (lines_of (names_of C.plan) all (records_between (system_from P.machine N.machine C.plan C.start) run.old.at run.new.at)) }
+    ensures fault { result ≡ false → Rose (K.faults sink.old) (K.faults sink.new) }
+    ensures prefix { result ≡ false → GotPrefix (K.told sink.old) (K.told sink.new) (lines_of (names_of C.plan) all (records_between (system_from P.machine N.machine C.plan C.start) run.old.at run.new.at)) }
+    ensures never_falls { K.faults sink.old ≤ K.faults sink.new }
+    ensures telling { is_some (K.told sink.new) ≡ is_some (K.told sink.old) }
+{
+    let mut looks = Steps::<M>::open(blank);
+    let bound = run.until + 1;
+    let mut t = next_due(&run.gear.next, run.at, bound, &mut looks);
+    while t < bound {
+        let stirred = one_time::<P, N, C, L, M>(
+            &mut run.world,
+            &mut run.gear,
+            t,
+            steps,
+            &mut looks,
+        );
+        run.end = later(stirred, t, run.end);
+        match write_records(&run.gear.recs, &run.names, all, sink) {
+            Ok(()) => {}
+            Err(_) => {
+                run.at = t + 1;
+                return false;
+            }
+        }
+        t = next_due(&run.gear.next, t + 1, bound, &mut looks);
+    }
+    run.at = bound;
+    true
+}

@@ -1,0 +1,15 @@
+//! From a configuration to the plan that it means, or the first rule of plans that it breaks.
+#![tactic(auto)]
+
+mod bytes;
+mod fields;
+mod links;
+mod maps;
+mod names;
+mod parts;
+mod ports;
+mod whole;
+
+pub use fields::field_names;
+pub use plan_rules::{PlanFault, PlanRule};
+pub use whole::build;

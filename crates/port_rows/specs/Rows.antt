@@ -1,0 +1,68 @@
+-- Ports by number, of which each stands in the row of its link.
+use Rattle.std.specs.Prelude.{◌≡◌, ℕ, ◌<◌, ◌≤◌, ◌||◌, Bool, true, false, List, [], length, map, slice_index, slice_index_or}
+use Rattle.std.specs.List.{range_with_len}
+use Rattle.port_msg.specs.PortView.{PortView, port_view}
+use Rattle.port_row.specs.declared.face.Face.{Face}
+use Rattle.port_row.specs.Row.{PortsView, no_face, face_at, face_of}
+use Rattle.port_rows.specs.declared.side.SideOf.{SideOf}
+use Rattle.port_rows.specs.declared.side.SideOf.TheVariants.{Parts, Links}
+use Rattle.tick_law.specs.Face.{differ}
+use Rattle.tick_law.specs.Wires.{Wires, own_of, owner_of, Wired}
+use Rattle.tick_law.specs.Pass.{place, port_at}
+
+-- all ports by number, what each showed when it was last settled, and how they are wired to the links
+pub record RowsView : Type 0 where
+  pub ports : List PortView
+  pub seen : List Face
+  pub wires : Wires
+
+module _ {A : Type 0} where
+  -- what the rows hold for this number, or else d
+  abbrev pub held_at : List (List A) → Wires → A → ℕ → A
+  held_at rows w d q = slice_index_or (slice_index_or rows (owner_of w q) []) (place q (own_of w (owner_of w q))) d
+
+  -- what the rows hold, by number
+  abbrev pub by_number : List (List A) → Wires → A → List A
+  by_number rows w d = map (held_at rows w d) (range_with_len 0 (length w.owner))
+
+-- each row is as long as the list of its owner's numbers
+abbrev pub AreRows : {A : Type 0} → List (List A) → Wires → Type 0
+AreRows rows w = (length rows ≡ length w.own) × ((j : ℕ) → length (slice_index_or rows j []) ≡ length (own_of w j))
+
+abbrev pub ports_in : List PortsView → List (List PortView)
+ports_in rows = map (λ r. r.ports) rows
+
+abbrev pub seen_in : List PortsView → List (List Face)
+seen_in rows = map (λ r. r.seen) rows
+
+abbrev pub rows_view : List PortsView → Wires → RowsView
+rows_view rows w = record { ports = by_number (ports_in rows) w (port_view [] [] 0); seen = by_number (seen_in rows) w no_face; wires = w }
+
+-- each number has its own place in a row, and the table tells which
+pub record IsSeated (rows : List PortsView) (w : Wires) (places : List ℕ) : Type 0 where
+  pub ports_are : AreRows (ports_in rows) w
+  pub seen_are : AreRows (seen_in rows) w
+  pub wired : Wired w (length w.owner)
+  pub owners : (q : ℕ) → q < length w.owner → owner_of w q < length w.own
+  pub tabled : length places ≡ length w.owner
+  pub places_are : (q : ℕ) → q < length w.owner → slice_index places q ≡ place q (own_of w (owner_of w q))
+
+-- a side is that of the parts
+abbrev pub are_parts : SideOf → Bool
+are_parts Parts = true
+are_parts Links = false
+
+-- two faces differ to a part (true) or to a link (false)
+abbrev pub other_face : Bool → Face → Face → Bool
+other_face true a b = differ a.in_head b.in_head || differ a.out_room b.out_room
+other_face false a b = differ a.out_head b.out_head || differ a.in_room b.in_room
+
+-- the ports of these numbers from place `from` on and below `below` show what was seen of them
+abbrev pub NoChangeAt : RowsView → List ℕ → ℕ → ℕ → Type 0
+NoChangeAt v own from below = (k : ℕ) → from ≤ k → k < below → face_at v.seen (slice_index own k) ≡ face_of (port_at v.ports (slice_index own k))
+
+-- those from place `from` on and below this one show what was seen of them
+pub record IsNextAt (v : RowsView) (own : List ℕ) (from k : ℕ) : Type 0 where
+  pub not_below : from ≤ k
+  pub within : k < length own
+  pub before : NoChangeAt v own from k

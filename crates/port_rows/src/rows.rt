@@ -1,0 +1,218 @@
+ghost use Rattle.std.specs.Prelude.{◌≡◌, ℕ, ◌+◌, ◌*◌, ◌<◌, ◌≤◌, ◌^◌, length, map, slice_set, vec_len, IfNone, IfOk, IfSome};
+ghost use Rattle.port_msg.specs.RecView.{appended_all};
+ghost use Rattle.tick_law.specs.Wires.{own_of, Has, AllApart};
+ghost use Rattle.tick_law.specs.Pass.{port_at, gather};
+ghost use Rattle.model_laws.specs.Pass.{scatter};
+ghost use Rattle.port_row.specs.Row.{face_of, face_at};
+ghost use Rattle.port_rows.specs.Opening.{IsSide};
+ghost use Rattle.port_rows.specs.Rows.{other_face, are_parts, NoChangeAt, IsNextAt};
+
+use crate::opening::{hollow_rows, places_of};
+use crate::side::SideOf;
+use port_msg::{Port, RecList};
+use port_row::{Face, Ports};
+use sim_base::{OutOfMemory, Steps};
+use std::alloc::Global;
+use std::marker::Model;
+use std::sync::ledger::Ledger;
+use tick_law::{Actor, Wiring};
+
+/// The ports of a world by number. Each stands in the row of its link, at its place among that link's ports.
+#[derive(Drop)]
+pub struct PortRows {
+    rows: Vec<Ports>,
+    wiring: Wiring,
+    places: Vec<u32>,
+}
+
+impl Model for PortRows {
+    ghost use Rattle.port_rows.specs.Rows.{RowsView, rows_view, IsSeated};
+
+    ghost Value = { RowsView };
+
+    ghost view = { λ r. rows_view r.rows.items r.wiring };
+
+    ghost invariant = { λ r. IsSeated r.rows.items r.wiring r.places.items };
+}
+
+/// Whether two faces are not the same to an owner of this side.
+fn is_other_face(side: SideOf, a: Face, b: Face) -> bool
+    ensures { result ≡ other_face (are_parts side) a b }
+{
+    match side {
+        SideOf::Parts => a.in_head != b.in_head || a.out_room != b.out_room,
+        SideOf::Links => a.out_head != b.out_head || a.in_room != b.in_room,
+    }
+}
+
+impl PortRows {
+    /// These ports by number, all settled. The wiring tells the link of each, and the numbers of each link's ports in order.
+    pub fn open(alloc: Global, ports: Vec<Port>, wiring: Wiring) -> Result<PortRows, OutOfMemory>
+        requires few { vec_len ports < 2 ^ 32 }
+        requires side { IsSide wiring (vec_len ports) }
+        ensures { IfOk result (λ rows. rows ≡ record { ports = ports.items; seen = map face_of ports.items; wires = wiring }) }
+    {
+        let places = places_of(alloc, &wiring, ports.len())?;
+        let rows = hollow_rows(alloc, &wiring)?;
+        let mut hand = Ports::open(alloc, ports)?;
+        let mut all = PortRows {
+            rows,
+            wiring,
+            places,
+        };
+        all.fill(&mut hand);
+        Ok(all)
+    }
+
+    /// Takes the ports of this row by number, and settles them.
+    fn fill(&mut self, hand: &mut Ports)
+        requires same { length hand.old.ports ≡ length self.old.ports }
+        requires seen { length self.old.seen ≡ length self.old.ports }
+        ensures { self.new ≡ record self.old { ports = hand.old.ports; seen = map face_of hand.old.ports } }
+    {
+        for q in 0..hand.len() {
+            self.exchange(q as u32, hand, q);
+            self.settle_at(q as u32);
+        }
+    }
+
+    /// Exchanges a port for one of another row.
+    fn exchange(&mut self, port: u32, hand: &mut Ports, k: usize)
+        requires here { port < length self.old.ports }
+        requires there { k < length hand.old.ports }
+        ensures here { self.new ≡ record self.old { ports = slice_set self.old.ports port (port_at hand.old.ports k) } }
+        ensures there { hand.new ≡ record hand.old { ports = slice_set hand.old.ports k (port_at self.old.ports port) } }
+    {
+        let link = self.wiring.owner(port) as usize;
+        let place = self.places[port as usize] as usize;
+        self.rows[link].exchange(place, hand, k);
+    }
+
+    /// Exchanges these ports for those of another row, each for the one at its place.
+    fn lend(&mut self, own: &[u32], hand: &mut Ports)
+        requires within { (q : ℕ) → Has own.now q → q < length self.old.ports }
+        requires same { length own.now ≡ length hand.old.ports }
+        requires apart { AllApart own.now }
+        ensures here { self.new ≡ record self.old { ports = scatter self.old.ports own.now hand.old.ports } }
+        ensures there { hand.new ≡ record hand.old { ports = gather self.old.ports own.now } }
+    {
+        let mut left = own.len();
+        while left > 0 {
+            left -= 1;
+            self.exchange(own[left], hand, left);
+        }
+    }
+
+    /// A link steps with its row where it stands.
+    pub fn tick_link<N: Actor, L: Ledger>(
+        &mut self,
+        no: u32,
+        link: &mut N,
+        cycle: u64,
+        recs: &mut RecList,
+        steps: &mut Steps<L>,
+    ) -> bool
+        requires here { no < length self.old.wires.own }
+        requires own { length (own_of self.old.wires no) ≡ N.machine.own link.old }
+        requires time { cycle * N.machine.period link.old ≤ 501000000000 }
+        requires room { length recs.old.items + 64 * length (own_of self.old.wires no) ≤ recs.old.room }
+
+        ensures state { link.new ≡ (N.machine.step link.old (gather self.old.ports (own_of self.old.wires no)) cycle).state }
+        ensures ports { self.new ≡ record self.old { ports = scatter self.old.ports (own_of self.old.wires no) (N.machine.step link.old (gather self.old.ports (own_of self.old.wires no)) cycle).ports } }
+        ensures long { length (N.machine.step link.old (gather self.old.ports (own_of self.old.wires no)) cycle).ports ≡ length (own_of self.old.wires no) }
+        ensures records { recs.new ≡ appended_all recs.old (N.machine.step link.old (gather self.old.ports (own_of self.old.wires no)) cycle).records }
+        ensures flag { result ≡ (N.machine.step link.old (gather self.old.ports (own_of self.old.wires no)) cycle).flag }
+        ensures steps { steps.new ≡ steps.old + 1 }
+    {
+        link.tick(&mut self.rows[no as usize], cycle, recs, steps)
+    }
+
+    /// A part steps with its ports, which stand in a row of its own meanwhile.
+    pub fn tick_part<P: Actor, L: Ledger>(
+        &mut self,
+        own: &[u32],
+        hand: &mut Ports,
+        part: &mut P,
+        cycle: u64,
+        recs: &mut RecList,
+        steps: &mut Steps<L>,
+    ) -> bool
+        requires within { (q : ℕ) → Has own.now q → q < length self.old.ports }
+        requires same { length own.now ≡ length hand.old.ports }
+        requires apart { AllApart own.now }
+        requires own { length own.now ≡ P.machine.own part.old }
+        requires time { cycle * P.machine.period part.old ≤ 501000000000 }
+        requires room { length recs.old.items + 64 * length own.now ≤ recs.old.room }
+
+        ensures state { part.new ≡ (P.machine.step part.old (gather self.old.ports own.now) cycle).state }
+        ensures ports { self.new ≡ record self.old { ports = scatter self.old.ports own.now (P.machine.step part.old (gather self.old.ports own.now) cycle).ports } }
+        ensures hand { hand.new ≡ hand.old }
+        ensures long { length (P.machine.step part.old (gather self.old.ports own.now) cycle).ports ≡ length own.now }
+        ensures records { recs.new ≡ appended_all recs.old (P.machine.step part.old (gather self.old.ports own.now) cycle).records }
+        ensures flag { result ≡ (P.machine.step part.old (gather self.old.ports own.now) cycle).flag }
+        ensures steps { steps.new ≡ steps.old + 1 }
+    {
+        self.lend(own, hand);
+        let flag = part.tick(hand, cycle, recs, steps);
+        self.lend(own, hand);
+        flag
+    }
+
+    /// How many ports there are.
+    pub fn len(&self) -> usize
+        ensures { result ≡ length self.now.ports }
+    {
+        self.places.len()
+    }
+
+    /// A port, by its number.
+    pub fn port(&self, port: u32) -> &Port
+        requires { port < length self.now.ports }
+        ensures { result.now ≡ port_at self.now.ports port }
+    {
+        let link = self.wiring.owner(port) as usize;
+        let place = self.places[port as usize] as usize;
+        let row = &self.rows[link];
+        row.port(place)
+    }
+
+    /// The numbers of a link's ports, in order.
+    pub fn own(&self, link: u32) -> &[u32]
+        requires { link < length self.now.wires.own }
+        ensures { result.now ≡ own_of self.now.wires link }
+    {
+        self.wiring.own(link)
+    }
+
+    /// The least place of a link's row, from `from` on, that was touched. Those that are passed over show what was seen of them.
+    pub fn next_touched(&self, link: u32, from: usize) -> Option<usize>
+        requires { link < length self.now.wires.own }
+        ensures none { IfNone result (NoChangeAt self.now (own_of self.now.wires link) from (length (own_of self.now.wires link))) }
+        ensures least { IfSome result (λ k. IsNextAt self.now (own_of self.now.wires link) from k) }
+    {
+        let row = &self.rows[link as usize];
+        row.next_touched(from)
+    }
+
+    /// Whether a port shows its owner of this side something else than was seen of it.
+    pub fn has_changed(&self, port: u32, side: SideOf) -> bool
+        requires { port < length self.now.ports }
+        ensures { result ≡ other_face (are_parts side) (face_at self.now.seen port) (face_of (port_at self.now.ports port)) }
+    {
+        let link = self.wiring.owner(port) as usize;
+        let place = self.places[port as usize] as usize;
+        let row = &self.rows[link];
+        is_other_face(side, row.seen(place), row.face(place))
+    }
+
+    /// Notes what a port shows as what was seen of it.
+    pub fn settle_at(&mut self, port: u32)
+        requires { port < length self.old.ports }
+        ensures seen { self.new ≡ record self.old { seen = slice_set self.old.seen port (face_of (port_at self.old.ports port)) } }
+        ensures within { port < length self.old.seen }
+    {
+        let link = self.wiring.owner(port) as usize;
+        let place = self.places[port as usize] as usize;
+        self.rows[link].settle_at(place);
+    }
+}

@@ -1,0 +1,10 @@
+pub mod LineLemmas
+pub mod NumberLemmas
+pub mod SpanLemmas
+pub mod HeadLemmas
+pub mod TextLemmas
+pub mod CallLemmas
+pub mod SegmentLemmas
+pub mod SeekLemmas
+pub mod RouteLemmas
+pub mod PieceLemmas

@@ -1,0 +1,6 @@
+pub mod Lines
+pub mod Head
+pub mod Route
+pub mod Table
+pub mod Response
+pub mod Pieces

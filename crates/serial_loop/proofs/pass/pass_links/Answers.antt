@@ -1,0 +1,82 @@
+use Rattle.std.proofs.Common.{◌≡◌, length, suc, refl, sym, ◌∙◌, ap, subst, arith, add-one}
+use Rattle.tick_law.specs.Laws.{Lawful}
+use Rattle.tick_law.specs.Wires.{own_of, Wired}
+use Rattle.tick_law.specs.WorldPlaces.{alls}
+use Rattle.tick_law.specs.Pass.{pass, everyone}
+use Rattle.model_laws.specs.Pass.{side_places, whole_side}
+use Rattle.model_laws.specs.Outcome.{firsts}
+use Rattle.model_laws.proofs.TurnByTurn.{room_left}
+use Rattle.actor_turn.specs.Turn.{side}
+use Rattle.actor_turn.specs.declared.side.SideGear.{SideGear}
+use Rattle.serial_loop.proofs.WithinLaws.{within}
+use Rattle.serial_loop.proofs.PassLaws.{HaveStepped, stepped_none, stepped_more, acted_as, all_stepped}
+use Rattle.serial_loop.proofs.pass.pass_links.Goals as goal
+
+pub loop-no-init : goal.loop-no-init
+loop-no-init g c = record {
+  stepped = stepped_none g.N.Actor.machine c.args.rows.now.wires c.args.t c.args.gear.now.links.first c.args.links.now c.args.rows.now.ports c.args.next.now c.args.gear.now.recs.items c.args.steps.now;
+  seen = refl;
+  wires = refl;
+  parts = refl;
+  links = refl;
+  hands = refl;
+  room = refl;
+}
+
+pub step_link-flag-requires-clause-wired : goal.step_link-flag-requires-clause-wired
+step_link-flag-requires-clause-wired g c =
+    let m = g.N.Actor.machine in
+    let law : Lawful m g.N.Actor.valid = record { framed = g.met.N.Actor.framed; stays = g.met.N.Actor.stays } in
+    let inv = c.loop-no.invariant in
+    let able = within m g.N.Actor.valid c.args.rows.now.wires (firsts everyone c.loop-no.no) c.args.t c.args.links.now c.loop-no.links c.args.rows.now.ports c.loop-no.rows.ports c.args.gear.now.recs.room c.args.gear.now.recs.room law c.requires.fits c.requires.sound (omega (arith, c.requires.time)) inv.stepped.places_are in
+    subst (λ x. Wired x (length c.loop-no.rows.ports)) (sym (inv.wires)) (subst (λ n. Wired (c.args.rows.now.wires) n) (sym able.long_ports) c.requires.fits.wired)
+
+pub step_link-flag-requires-clause-count : goal.step_link-flag-requires-clause-count
+step_link-flag-requires-clause-count g c s e =
+    let m = g.N.Actor.machine in
+    let law : Lawful m g.N.Actor.valid = record { framed = g.met.N.Actor.framed; stays = g.met.N.Actor.stays } in
+    let inv = c.loop-no.invariant in
+    let able = within m g.N.Actor.valid c.args.rows.now.wires (firsts everyone c.loop-no.no) c.args.t c.args.links.now c.loop-no.links c.args.rows.now.ports c.loop-no.rows.ports c.args.gear.now.recs.room c.args.gear.now.recs.room law c.requires.fits c.requires.sound (omega (arith, c.requires.time)) inv.stepped.places_are in
+    ap (λ x. length (own_of x c.loop-no.no)) (inv.wires) ∙ able.count c.loop-no.no s e
+
+pub step_link-flag-requires-clause-room : goal.step_link-flag-requires-clause-room
+step_link-flag-requires-clause-room g c =
+    let m = g.N.Actor.machine in
+    let law : Lawful m g.N.Actor.valid = record { framed = g.met.N.Actor.framed; stays = g.met.N.Actor.stays } in
+    let inv = c.loop-no.invariant in
+    let left = room_left m g.N.Actor.valid c.args.rows.now.wires everyone c.args.t c.args.gear.now.links.first c.loop-no.no c.args.gear.now.recs.room (side c.args.links.now c.args.rows.now.ports) c.args.gear.now.recs.items c.loop-no.gear.recs.items law c.requires.fits.wired c.requires.sound (omega (arith, c.loop-no-test.true)) inv.stepped.records_are c.requires.enough in
+    omega (arith, left, inv.room, ap (λ x. length (own_of x c.loop-no.no)) (inv.wires))
+
+pub loop-no-preserved : goal.loop-no-preserved
+loop-no-preserved g c =
+    let m = g.N.Actor.machine in
+    let law : Lawful m g.N.Actor.valid = record { framed = g.met.N.Actor.framed; stays = g.met.N.Actor.stays } in
+    let inv = c.loop-no.invariant in
+    let n = c.loop-no.no in
+    let w = c.args.rows.now.wires in
+    let base = c.args.gear.now.links.first in
+    let h = side c.args.links.now c.args.rows.now.ports in
+    let e = c.step_link-flag.ensures in
+    let new = c.step_link-flag.new in
+    let did = acted_as m w c.loop-no.rows.wires c.args.t base c.loop-no.gear.links.first n c.loop-no.links new.links c.loop-no.rows.ports new.rows.ports c.loop-no.next c.note_next.new.next c.loop-no.gear.recs.items new.gear.recs.items c.loop-no.stirred c.step_link-flag.result c.either-stirred.result c.loop-no.steps new.steps
+    (inv.wires) (ap (λ (x : SideGear). x.first) inv.links)
+    (record { acted = e.side_places; same = e.same; items_are = e.records; turned_is = e.flag; flag_is = c.either-stirred.ensures; steps_are = e.steps; next_is = c.note_next.ensures }) in
+    let more : HaveStepped m w c.args.t base (suc n) h c.args.next.now new.links new.rows.ports c.note_next.new.next c.args.gear.now.recs.items new.gear.recs.items c.either-stirred.result c.args.steps.now new.steps =
+    stepped_more m g.N.Actor.valid w c.args.t base n h c.args.next.now c.loop-no.links new.links c.loop-no.rows.ports new.rows.ports c.loop-no.next c.note_next.new.next c.args.gear.now.recs.items c.loop-no.gear.recs.items new.gear.recs.items c.loop-no.stirred c.step_link-flag.result c.either-stirred.result c.args.steps.now c.loop-no.steps new.steps law c.requires.fits.wired c.requires.sound c.requires.next (omega (arith, c.loop-no-test.true)) inv.stepped did in
+    record {
+      stepped = subst (λ k. HaveStepped m w c.args.t base k h c.args.next.now new.links new.rows.ports c.note_next.new.next c.args.gear.now.recs.items new.gear.recs.items c.either-stirred.result c.args.steps.now new.steps) (sym (add-one n)) more;
+      seen = e.seen ∙ inv.seen;
+      wires = e.wires ∙ inv.wires;
+      parts = e.parts ∙ inv.parts;
+      links = e.links ∙ inv.links;
+      hands = e.hands ∙ inv.hands;
+      room = e.room ∙ inv.room;
+    }
+
+pub returns-clause-side_places : goal.returns-clause-side_places
+returns-clause-side_places g c =
+    let m = g.N.Actor.machine in
+    let h = side c.args.links.now c.args.rows.now.ports in
+    let end : c.loop-no.no ≡ length c.args.links.now = omega (arith, c.loop-no-test.false, c.loop-no.auto.no-end) in
+    all_stepped m c.args.rows.now.wires c.args.t h c.loop-no.links c.loop-no.rows.ports c.requires.fits.owned
+    (subst (λ k. side_places (alls c.loop-no.links) (alls c.loop-no.rows.ports) ≡ whole_side (pass m (c.args.rows.now.wires) (firsts everyone k) c.args.t h)) end c.loop-no.invariant.stepped.places_are)
