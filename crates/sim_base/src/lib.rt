@@ -19,4 +19,6 @@ pub use numbers::{ActorNo, LinkNo, PartNo, PortNo};
 pub use phase::Phase;
 pub use port_list::PortList;
 pub use steps::Steps;
-pub use time::{LATEST_EDGE, LONGEST_PERIOD, Time, first_edge_after, first_edge_from};
+pub use time::{
+    LATEST_EDGE, LATEST_TICK, LATEST_TIME, LONGEST_PERIOD, Time, first_edge_after, first_edge_from,
+};

@@ -8,6 +8,12 @@ pub struct Time(pub u64);
 /// The longest period of a clock, in picoseconds.
 pub const LONGEST_PERIOD: u64 = 1_000_000_000;
 
+/// The latest budget of a run, in picoseconds.
+pub const LATEST_TIME: u64 = 500_000_000_000;
+
+/// Every step is made at this time or before, in picoseconds: the first edge behind the latest budget of the longest period.
+pub const LATEST_TICK: u64 = LATEST_TIME + LONGEST_PERIOD;
+
 /// Every edge that is ever computed is below this time, so that no sum of times wraps.
 pub const LATEST_EDGE: u64 = 1 << 50;
 
