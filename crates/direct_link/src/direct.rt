@@ -5,7 +5,7 @@ use crate::port_index::PortIndex;
 use crate::serving::serve_all;
 use port_msg::RecList;
 use port_row::Ports;
-use sim_base::{ActorNo, OutOfMemory, PortList, Steps};
+use sim_base::{ActorNo, LONGEST_PERIOD, OutOfMemory, PortList, Steps};
 use std::alloc::Global;
 use std::marker::Model;
 use std::sync::ledger::Ledger;
@@ -46,7 +46,7 @@ impl Direct {
     /// A link that has moved nothing and serves its first port first.
     pub fn open(alloc: Global, text: &DirectText) -> Result<Direct, OutOfMemory>
         requires some { 1 ≤ text.now.period }
-        requires short { text.now.period ≤ 1000000000 }
+        requires short { text.now.period ≤ LONGEST_PERIOD }
         requires few { length text.now.ports ≤ MOST_PORTS }
 
         ensures { IfOk result (λ link. link ≡ opening text.now) }

@@ -1,5 +1,6 @@
 -- A memory: what its state is, and what it does in a step.
 use Rattle.std.specs.Prelude.{ℕ, ◌+◌, ◌-◌, ◌*◌, ◌^◌, ◌<◌, ◌≤◌, ◌&&◌, ◌++◌, ◌==◌, List, [], ◌∷◌, length, take, drop, min, Option, Some, None, Bool, true, false, IsTrue, nat_lt, nat_le, cond, slice_get, replicate, All}
+use Rattle.sim_base.specs.declared.time.TheConstants.{LATEST_TICK, LONGEST_PERIOD}
 use Rattle.port_msg.specs.PortView.{PortView}
 use Rattle.port_msg.specs.declared.message.Msg.{Msg}
 use Rattle.port_msg.specs.declared.message.MsgKind.{MsgKind}
@@ -50,12 +51,12 @@ accepts base size m = is_request m.kind && lies_within base size m
 -- a request that waits is one that the memory takes, and its deadline is no later than any that it can get
 pub record IsWaiting (base size period : ℕ) (w : Waiting) : Type 0 where
   pub accepted : IsTrue (accepts base size w.request)
-  pub early : w.deadline * period ≤ 501000000000 + 1000000 * period
+  pub early : w.deadline * period ≤ LATEST_TICK + 1000000 * period
 
 -- a state that a memory can be in
 pub record IsMemory (s : MemoryState) : Type 0 where
   pub period_some : 0 < s.period
-  pub period_short : s.period ≤ 1000000000
+  pub period_short : s.period ≤ LONGEST_PERIOD
   pub latency_short : s.latency ≤ 1000000
   pub depth_most : s.depth ≤ 64
   pub size_most : length s.bytes ≤ 268435456

@@ -5,6 +5,7 @@ use Rattle.std.proofs.lemmas.Grind.{common_steps}
 use Rattle.std.proofs.lemmas.List.{drop-replicate}
 use Rattle.std.proofs.lemmas.List.Elements.{All-drop, All-push, All-head}
 use Rattle.std.proofs.lemmas.Bool.Decides.{nat_tests}
+use Rattle.sim_base.specs.declared.time.TheConstants.{LATEST_TICK, LONGEST_PERIOD}
 use Rattle.port_msg.specs.PortView.{PortView}
 use Rattle.port_msg.specs.declared.message.Msg.{Msg}
 use Rattle.tick_law.specs.Frame.{AllPorts, Framed}
@@ -20,7 +21,7 @@ use Rattle.mem_ctrl.specs.Memory.{MemoryState, IsWaiting, IsMemory, filled, acce
 -- what stays the same in a step at a cycle, and that a state that a memory can be in leads to one
 record Stays (n : ℕ) (s t : MemoryState) : Type 0 where
   period : t.period ≡ s.period
-  valid : IsMemory s → n * s.period ≤ 501000000000 → IsMemory t
+  valid : IsMemory s → n * s.period ≤ LATEST_TICK → IsMemory t
 
 stays_same : (n : ℕ) (s : MemoryState) → Stays n s s
 stays_same n s = record { period = refl; valid = λ v e. v }
@@ -102,7 +103,7 @@ left_queue s queue depth count v e f = record {
 }
 
 -- one has joined it
-pub joined_queue : (s : MemoryState) (queue : List Waiting) (depth n : ℕ) (m : Msg) → IsMemory s → accepts s.base (length s.bytes) m ≡ true → n * s.period ≤ 501000000000 → queue ≡ s.queue ++ waiting_from s m n ∷ [] → depth ≡ s.depth → IsMemory (record s { queue = queue; depth = depth })
+pub joined_queue : (s : MemoryState) (queue : List Waiting) (depth n : ℕ) (m : Msg) → IsMemory s → accepts s.base (length s.bytes) m ≡ true → n * s.period ≤ LATEST_TICK → queue ≡ s.queue ++ waiting_from s m n ∷ [] → depth ≡ s.depth → IsMemory (record s { queue = queue; depth = depth })
 joined_queue s queue depth n m v a b e f = record {
   period_some = v.period_some;
   period_short = v.period_short;
@@ -113,7 +114,7 @@ joined_queue s queue depth n m v a b e f = record {
   waiting = rw e (All-push (IsWaiting s.base (length s.bytes) s.period) s.queue (waiting_from s m n) v.waiting (record { accepted = a; early = set_early n s.latency s.period b v.latency_short }));
 }
 
-taken_valid : (n : ℕ) (s : MemoryState) (p : PortView) (m : Msg) → accepts s.base (length s.bytes) m ≡ true → IsMemory s → n * s.period ≤ 501000000000 → IsMemory (taken s p m n).state
+taken_valid : (n : ℕ) (s : MemoryState) (p : PortView) (m : Msg) → accepts s.base (length s.bytes) m ≡ true → IsMemory s → n * s.period ≤ LATEST_TICK → IsMemory (taken s p m n).state
 taken_valid n s p m e v b = joined_queue s (s.queue ++ waiting_from s m n ∷ []) s.depth n m v e b refl refl
 
 kept_take_of : (n : ℕ) (s : MemoryState) (p : PortView) (o : Option Msg) → Kept (Stays n) 1 s p (take_of s p n o)
@@ -139,7 +140,7 @@ memory_framed s (p ∷ ps) n v o e =
     let k = kept_both n s p in
     record { period = k.state.period; own = refl; ports = (k.framed, frames_same true ps); records = omega (arith, k.few) }
 
-pub memory_stays : (s : MemoryState) (ports : List PortView) (n : ℕ) → IsMemory s → AllPorts ports → length ports ≡ 1 → n * s.period ≤ 501000000000 → IsMemory (memory.step s ports n).state × AllPorts (memory.step s ports n).ports
+pub memory_stays : (s : MemoryState) (ports : List PortView) (n : ℕ) → IsMemory s → AllPorts ports → length ports ≡ 1 → n * s.period ≤ LATEST_TICK → IsMemory (memory.step s ports n).state × AllPorts (memory.step s ports n).ports
 memory_stays s [] n v o e b = (v, tt)
 memory_stays s (p ∷ ps) n v o e b = let k = kept_both n s p in (k.state.valid v b, (k.port_ok o.0, o.1))
 
@@ -218,5 +219,5 @@ memory_due_steady s n k v l h = by_head (slice_get s.queue 0) h
     by_head None g = refl
     by_head (Some w) g = above_steady w.deadline n k l g
 
-pub memory_period_within : (s : MemoryState) → IsMemory s → (0 < s.period) × (s.period ≤ 1000000000)
+pub memory_period_within : (s : MemoryState) → IsMemory s → (0 < s.period) × (s.period ≤ LONGEST_PERIOD)
 memory_period_within s v = (v.period_some, v.period_short)

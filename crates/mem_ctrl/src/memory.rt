@@ -7,7 +7,7 @@ use crate::waiting::Waiting;
 use circular_buffer::HeapCircularBuffer;
 use port_msg::{DATA_BYTES, Msg, MsgKind, RecList, What};
 use port_row::Ports;
-use sim_base::{ActorNo, Body, OutOfMemory, PortNo, Steps};
+use sim_base::{ActorNo, Body, LATEST_TICK, LONGEST_PERIOD, OutOfMemory, PortNo, Steps};
 use std::alloc::Global;
 use std::marker::Model;
 use std::sync::ledger::Ledger;
@@ -73,7 +73,7 @@ impl Memory {
     /// A memory with the bytes that it starts with, in which no request waits.
     pub fn open(alloc: Global, text: &MemoryText) -> Result<Memory, OutOfMemory>
         requires some { 1 ≤ text.now.period }
-        requires short { text.now.period ≤ 1000000000 }
+        requires short { text.now.period ≤ LONGEST_PERIOD }
         requires latency { text.now.latency ≤ LONGEST_LATENCY }
         requires depth { text.now.depth ≤ MOST_WAITING }
         requires size { text.now.size ≤ MOST_BYTES }
@@ -239,7 +239,7 @@ impl Memory {
     fn take_request(&mut self, ports: &mut Ports, cycle: u64, recs: &mut RecList) -> bool
         requires port { 0 < length ports.old.ports }
         requires room { length recs.old.items < recs.old.room }
-        requires time { cycle * self.old.period ≤ 501000000000 }
+        requires time { cycle * self.old.period ≤ LATEST_TICK }
 
         ensures state { self.new ≡ (take_request cycle self.old (port_at ports.old.ports 0)).state }
         ensures port { ports.new ≡ record ports.old { ports = slice_set ports.old.ports 0 (take_request cycle self.old (port_at ports.old.ports 0)).port } }

@@ -1,6 +1,7 @@
 -- The two sides of a run.
 use Rattle.std.specs.Prelude.{◌≡◌, ℕ, ◌/◌, ◌<◌, ◌≤◌, ◌&&◌, List, [], ◌∷◌, length, Option, Some, None, Bool, true, false, slice_get, refl}
 use Rattle.std.proofs.Common.{zero, suc, sym, ◌∙◌, ap, subst, arith, get_or}
+use Rattle.sim_base.specs.declared.time.TheConstants.{LATEST_TICK}
 use Rattle.port_msg.specs.PortView.{PortView, port_view}
 use Rattle.tick_law.specs.Machine.{Machine}
 use Rattle.tick_law.specs.Frame.{PortFrame, Frames}
@@ -69,13 +70,13 @@ module _ {P N : Type 0} where
   pub link_wired_at : (r : System P N) (vp : P → Type 0) (vn : N → Type 0) (t : ℕ) → IsSetUp r vp vn → Wired r.link_wires (length (mid r t).ports)
   link_wired_at r vp vn t up = subst (Wired r.link_wires) (sym (mid_count r t)) up.link_wired
 
-  pub mid_sound : (r : System P N) (vp : P → Type 0) (vn : N → Type 0) (t : ℕ) → IsSetUp r vp vn → t ≤ 501000000000 → IsSound r.link vn r.link_wires (links_of (mid r t))
+  pub mid_sound : (r : System P N) (vp : P → Type 0) (vn : N → Type 0) (t : ℕ) → IsSetUp r vp vn → t ≤ LATEST_TICK → IsSound r.link vn r.link_wires (links_of (mid r t))
   mid_sound r vp vn t up l =
       let g = world_good r vp vn t up (omega arith) in
       let s = pass_sound r.part vp r.part_wires (begun r.start.at t) t (parts_of (world_at r t)) up.part_laws.lawful (part_wired_at r vp vn t up) l g.parts in
       record { states = g.links.states; ports = s.ports }
 
-  pub part_is : (r : System P N) (vp : P → Type 0) (vn : N → Type 0) → IsSetUp r vp vn → IsCourse (part_course r) vp 501000000000
+  pub part_is : (r : System P N) (vp : P → Type 0) (vn : N → Type 0) → IsSetUp r vp vn → IsCourse (part_course r) vp LATEST_TICK
   part_is r vp vn up = record {
     lawful = up.part_laws.lawful;
     quiet = up.part_laws.quiet;
@@ -91,7 +92,7 @@ module _ {P N : Type 0} where
     small = omega arith;
   }
 
-  pub link_is : (r : System P N) (vp : P → Type 0) (vn : N → Type 0) → IsSetUp r vp vn → IsCourse (link_course r) vn 501000000000
+  pub link_is : (r : System P N) (vp : P → Type 0) (vn : N → Type 0) → IsSetUp r vp vn → IsCourse (link_course r) vn LATEST_TICK
   link_is r vp vn up = record {
     lawful = up.link_laws.lawful;
     quiet = up.link_laws.quiet;

@@ -1,6 +1,7 @@
 -- Both passes of a time make the next boundary.
 use Rattle.std.specs.Prelude.{◌≡◌, ℕ, ◌+◌, ◌*◌, ◌<◌, ◌≤◌, ◌||◌, List, ◌++◌, length, Option, Bool, true, false, refl, slice_index_or}
 use Rattle.std.proofs.Common.{sym, ◌∙◌, ap, subst, arith, append_assoc}
+use Rattle.sim_base.specs.declared.time.TheConstants.{LATEST_TICK, LATEST_TIME}
 use Rattle.port_msg.specs.PortView.{PortView}
 use Rattle.port_msg.specs.declared.records.Record.{Record}
 use Rattle.tick_law.specs.Machine.{Machine}
@@ -54,11 +55,11 @@ asks_same m valid w sp next base base' hand hand' room room' items others period
     subst (λ x. Asks m valid w sp next x hand' room' items others periods wn) (sym e) (subst (λ x. Asks m valid w sp next base x room' items others periods wn) (sym f) (subst (λ x. Asks m valid w sp next base hand x items others periods wn) (sym g) a))
 
 module _ {P N : Type 0} where
-  pub primary_gave : (stepping : Stepping) (r : System P N) (vp : P → Type 0) (vn : N → Type 0) (t : ℕ) (world : WorldPlaces P N) (parts links : List (Option ℕ)) → IsSetUp r vp vn → t ≤ 500000000000 → IsBoundary r t world parts links →
+  pub primary_gave : (stepping : Stepping) (r : System P N) (vp : P → Type 0) (vn : N → Type 0) (t : ℕ) (world : WorldPlaces P N) (parts links : List (Option ℕ)) → IsSetUp r vp vn → t ≤ LATEST_TIME → IsBoundary r t world parts links →
       Gave r.part r.part_wires (chosen stepping parts t) (begun r.start.at t) (counted stepping (part_course r) t) t (side_of world.parts world.ports) (parts_of (world_at r t)) 0
   primary_gave stepping r vp vn t world parts links up l was =
       let c = part_course r in
-      let end : ℕ = 501000000000 in
+      let end : ℕ = LATEST_TICK in
       let ci = part_is r vp vn up in
       let w = world_at r t in
       let count : length w.parts ≡ length r.start.world.parts = count_is c vp end t ci in
@@ -68,11 +69,11 @@ module _ {P N : Type 0} where
       let kept = pass_kept stepping c vp end t 0 parts ci (omega arith) was.begun owned (subst (λ n. IsTable parts (part_next r t) n) (sym count) was.parts_are) in
       gave_of r.part r.part_wires (chosen stepping parts t) (begun r.start.at t) (counted stepping (part_course r) t) t (side_of world.parts world.ports) (parts_of w) 0 h_is (record { all_records = kept.records; all_stirs = kept.stirs; all_steps = kept.steps })
 
-  pub secondary_gave : (stepping : Stepping) (r : System P N) (vp : P → Type 0) (vn : N → Type 0) (t : ℕ) (world : WorldPlaces P N) (parts links : List (Option ℕ)) → IsSetUp r vp vn → t ≤ 500000000000 → IsMid r t world parts links →
+  pub secondary_gave : (stepping : Stepping) (r : System P N) (vp : P → Type 0) (vn : N → Type 0) (t : ℕ) (world : WorldPlaces P N) (parts links : List (Option ℕ)) → IsSetUp r vp vn → t ≤ LATEST_TIME → IsMid r t world parts links →
       Gave r.link r.link_wires (chosen stepping links t) (begun r.start.at t) (counted stepping (link_course r) t) t (side_of world.links world.ports) (links_of (mid r t)) (length r.start.world.parts)
   secondary_gave stepping r vp vn t world parts links up l was =
       let k = link_course r in
-      let end : ℕ = 501000000000 in
+      let end : ℕ = LATEST_TICK in
       let ki = link_is r vp vn up in
       let w = mid r t in
       let count : length w.links ≡ length r.start.world.links = count_is k vn end t ki in
@@ -83,7 +84,7 @@ module _ {P N : Type 0} where
       gave_of r.link r.link_wires (chosen stepping links t) (begun r.start.at t) (counted stepping (link_course r) t) t (side_of world.links world.ports) (links_of w) (length r.start.world.parts) h_is (record { all_records = kept.records; all_stirs = kept.stirs; all_steps = kept.steps })
 
   -- after the first half
-  pub to_mid : (stepping : Stepping) (r : System P N) (vp : P → Type 0) (vn : N → Type 0) (hand room t : ℕ) (pp lp : List ℕ) (world : WorldPlaces P N) (parts links parts1 links1 : List (Option ℕ)) (actors1 : List (Option P)) (ports1 : List (Option PortView)) → Fitted r vp vn hand room pp lp → t ≤ 500000000000 → IsBoundary r t world parts links →
+  pub to_mid : (stepping : Stepping) (r : System P N) (vp : P → Type 0) (vn : N → Type 0) (hand room t : ℕ) (pp lp : List ℕ) (world : WorldPlaces P N) (parts links parts1 links1 : List (Option ℕ)) (actors1 : List (Option P)) (ports1 : List (Option PortView)) → Fitted r vp vn hand room pp lp → t ≤ LATEST_TIME → IsBoundary r t world parts links →
       (let h = side_of world.parts world.ports in
       side_places actors1 ports1 ≡ whole_side (pass r.part r.part_wires (chosen stepping parts t) t h)
       → IsTable parts1 (λ i. next_after r.part t (outcome r.part r.part_wires (chosen stepping parts t) t h i) (next_at_place parts i)) (length h.states)
@@ -94,7 +95,7 @@ module _ {P N : Type 0} where
       (table_same links1 _ _ (length links) (λ j b. ap (λ x. woken (any_of (λ q. face_differs false (port_at (somes world.ports) q) (port_at (somes ports1) q)) (own_of r.link_wires j)) (edge_from x t) (next_at_place links j)) (f.link_period j (subst (λ n. j < n) was.links_are.long b)).0) w)
 
   -- and after the second
-  pub to_next : (stepping : Stepping) (r : System P N) (vp : P → Type 0) (vn : N → Type 0) (hand room t : ℕ) (pp lp : List ℕ) (world : WorldPlaces P N) (parts links parts1 links1 : List (Option ℕ)) (actors1 : List (Option N)) (ports1 : List (Option PortView)) → Fitted r vp vn hand room pp lp → t ≤ 500000000000 → IsMid r t world parts links →
+  pub to_next : (stepping : Stepping) (r : System P N) (vp : P → Type 0) (vn : N → Type 0) (hand room t : ℕ) (pp lp : List ℕ) (world : WorldPlaces P N) (parts links parts1 links1 : List (Option ℕ)) (actors1 : List (Option N)) (ports1 : List (Option PortView)) → Fitted r vp vn hand room pp lp → t ≤ LATEST_TIME → IsMid r t world parts links →
       (let h = side_of world.links world.ports in
       side_places actors1 ports1 ≡ whole_side (pass r.link r.link_wires (chosen stepping links t) t h)
       → IsTable links1 (λ i. next_after r.link t (outcome r.link r.link_wires (chosen stepping links t) t h i) (next_at_place links i)) (length h.states)
@@ -105,7 +106,7 @@ module _ {P N : Type 0} where
       (table_same parts1 _ _ (length parts) (λ j b. ap (λ x. woken (any_of (λ q. face_differs true (port_at (somes world.ports) q) (port_at (somes ports1) q)) (own_of r.part_wires j)) (edge_from x (t + 1)) (next_at_place parts j)) (f.part_period j (subst (λ n. j < n) was.parts_are.long b)).0) w)
 
   -- the second half's asks
-  pub then_asks : (stepping : Stepping) (r : System P N) (vp : P → Type 0) (vn : N → Type 0) (hand room t base hand1 room1 : ℕ) (pp lp : List ℕ) (world : WorldPlaces P N) (parts links parts1 links1 : List (Option ℕ)) (actors1 : List (Option P)) (ports1 : List (Option PortView)) (items items1 : List Record) → Fitted r vp vn hand room pp lp → t ≤ 500000000000 → IsBoundary r t world parts links →
+  pub then_asks : (stepping : Stepping) (r : System P N) (vp : P → Type 0) (vn : N → Type 0) (hand room t base hand1 room1 : ℕ) (pp lp : List ℕ) (world : WorldPlaces P N) (parts links parts1 links1 : List (Option ℕ)) (actors1 : List (Option P)) (ports1 : List (Option PortView)) (items items1 : List Record) → Fitted r vp vn hand room pp lp → t ≤ LATEST_TIME → IsBoundary r t world parts links →
       length items + 64 * (own_to r.part_wires (length r.start.world.parts) + own_to r.link_wires (length r.start.world.links)) ≤ room →
       base ≡ length r.start.world.parts → hand1 ≡ hand → room1 ≡ room →
       items1 ≡ items ++ records r.part r.part_wires (chosen stepping parts t) t (side_of world.parts world.ports) 0 →

@@ -1,6 +1,7 @@
 -- One time of the sleeping engine, and times at which nobody is due.
 use Rattle.std.specs.Prelude.{◌≡◌, ℕ, ◌+◌, ◌%◌, ◌<◌, ◌≤◌, [], ◌++◌, length, Option, Some, Bool, true, false, refl}
 use Rattle.std.proofs.Common.{zero, suc, sym, ◌∙◌, ap, subst, arith, add-one}
+use Rattle.sim_base.specs.declared.time.TheConstants.{LATEST_TICK, LATEST_TIME}
 use Rattle.tick_law.specs.Machine.{Machine}
 use Rattle.port_msg.specs.RecView.{records_at}
 use Rattle.tick_law.specs.Wires.{Wires, own_of, owner_of}
@@ -97,13 +98,13 @@ module _ {P N : Type 0} where
   quiet_link r vn end zero i is b e = refl
   quiet_link r vn end (suc u) i is b e = link_woken r (suc u) i (period_at_start (link_course r) vn end i is b) ∙ woken_no (parts_face r (suc u) i) _ _ (gap_rests (link_course r) u i e)
 
-  pub nothing_happens : (r : System P N) (vp : P → Type 0) (vn : N → Type 0) (t : ℕ) → IsSetUp r vp vn → t ≤ 500000000000 → r.start.at ≤ t → Rest r t → Nothing r t
+  pub nothing_happens : (r : System P N) (vp : P → Type 0) (vn : N → Type 0) (t : ℕ) → IsSetUp r vp vn → t ≤ LATEST_TIME → r.start.at ≤ t → Rest r t → Nothing r t
   nothing_happens r vp vn t up l from rest =
       let c = part_course r in
       let k = link_course r in
       let ci = part_is r vp vn up in
       let ki = link_is r vp vn up in
-      let end : ℕ = 501000000000 in
+      let end : ℕ = LATEST_TICK in
       let cc_ : length (world_at r t).parts ≡ length r.start.world.parts = count_is c vp end t ci in
       let kc : length (mid r t).links ≡ length r.start.world.links = count_is k vn end t ki in
       let pc = port_count r t in

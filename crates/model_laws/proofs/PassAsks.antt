@@ -1,6 +1,7 @@
 -- What each pass of a time asks for is there.
 use Rattle.std.specs.Prelude.{◌≡◌, ℕ, ◌+◌, ◌*◌, ◌^◌, ◌<◌, ◌≤◌, List, length, Option, Bool, true, false, refl, slice_index_or}
 use Rattle.std.proofs.Common.{sym, ◌∙◌, ap, subst, arith}
+use Rattle.sim_base.specs.declared.time.TheConstants.{LATEST_TIME}
 use Rattle.port_msg.specs.PortView.{PortView}
 use Rattle.tick_law.specs.Machine.{Machine}
 use Rattle.tick_law.specs.WorldPlaces.{WorldPlaces, SidePlaces, alls, IsFull}
@@ -32,7 +33,7 @@ pub record Asks {S : Type 0} (m : Machine S) (valid : S → Type 0) (w : Wires) 
   pub wakes : Wakes others (length side_places.ports) periods woken
 
 module _ {P N : Type 0} where
-  pub primary_asks : (r : System P N) (vp : P → Type 0) (vn : N → Type 0) (hand room items t : ℕ) (pp lp : List ℕ) (world : WorldPlaces P N) (parts links : List (Option ℕ)) → Fitted r vp vn hand room pp lp → IsBoundary r t world parts links → t ≤ 500000000000 → items + 64 * (own_to r.part_wires (length r.start.world.parts) + own_to r.link_wires (length r.start.world.links)) ≤ room →
+  pub primary_asks : (r : System P N) (vp : P → Type 0) (vn : N → Type 0) (hand room items t : ℕ) (pp lp : List ℕ) (world : WorldPlaces P N) (parts links : List (Option ℕ)) → Fitted r vp vn hand room pp lp → IsBoundary r t world parts links → t ≤ LATEST_TIME → items + 64 * (own_to r.part_wires (length r.start.world.parts) + own_to r.link_wires (length r.start.world.links)) ≤ room →
       Asks r.part vp r.part_wires (side_places world.parts world.ports) parts 0 hand room items r.link_wires lp links
   primary_asks r vp vn hand room items t pp lp world parts links f was l enough =
       let w = world_at r t in
@@ -61,7 +62,7 @@ module _ {P N : Type 0} where
         };
       }
 
-  pub secondary_asks : (r : System P N) (vp : P → Type 0) (vn : N → Type 0) (hand room items t : ℕ) (pp lp : List ℕ) (world : WorldPlaces P N) (parts links : List (Option ℕ)) → Fitted r vp vn hand room pp lp → IsMid r t world parts links → t ≤ 500000000000 → items + 64 * own_to r.link_wires (length r.start.world.links) ≤ room →
+  pub secondary_asks : (r : System P N) (vp : P → Type 0) (vn : N → Type 0) (hand room items t : ℕ) (pp lp : List ℕ) (world : WorldPlaces P N) (parts links : List (Option ℕ)) → Fitted r vp vn hand room pp lp → IsMid r t world parts links → t ≤ LATEST_TIME → items + 64 * own_to r.link_wires (length r.start.world.links) ≤ room →
       Asks r.link vn r.link_wires (side_places world.links world.ports) links (length r.start.world.parts) hand room items r.part_wires pp parts
   secondary_asks r vp vn hand room items t pp lp world parts links f was l enough =
       let w = mid r t in

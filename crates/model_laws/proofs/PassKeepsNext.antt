@@ -1,6 +1,7 @@
 -- What an engine keeps: its world is the run's, and its tables have the run's next times.
 use Rattle.std.specs.Prelude.{◌≡◌, ℕ, ◌+◌, ◌<◌, ◌≤◌, ◌||◌, List, ◌++◌, length, Option, Some, None, Bool, true, false, slice_get, refl}
 use Rattle.std.proofs.Common.{zero, suc, sym, ◌∙◌, ap, subst, arith, add-one}
+use Rattle.sim_base.specs.declared.time.TheConstants.{LATEST_TICK, LATEST_TIME}
 use Rattle.port_msg.specs.PortView.{PortView}
 use Rattle.tick_law.specs.Machine.{Machine}
 use Rattle.port_msg.specs.RecView.{records_at}
@@ -96,7 +97,7 @@ module _ {S : Type 0} where
 
 module _ {P N : Type 0} where
   -- the primary pass and its wakes
-  pub primary_kept : (stepping : Stepping) (r : System P N) (vp : P → Type 0) (vn : N → Type 0) (t : ℕ) (world : WorldPlaces P N) (parts links parts1 links1 : List (Option ℕ)) (actors1 : List (Option P)) (ports1 : List (Option PortView)) → IsSetUp r vp vn → t ≤ 500000000000 → IsBoundary r t world parts links →
+  pub primary_kept : (stepping : Stepping) (r : System P N) (vp : P → Type 0) (vn : N → Type 0) (t : ℕ) (world : WorldPlaces P N) (parts links parts1 links1 : List (Option ℕ)) (actors1 : List (Option P)) (ports1 : List (Option PortView)) → IsSetUp r vp vn → t ≤ LATEST_TIME → IsBoundary r t world parts links →
       (let h = side_of world.parts world.ports in
       side_places actors1 ports1 ≡ whole_side (pass r.part r.part_wires (chosen stepping parts t) t h)
       → IsTable parts1 (λ i. next_after r.part t (outcome r.part r.part_wires (chosen stepping parts t) t h i) (next_at_place parts i)) (length h.states)
@@ -105,7 +106,7 @@ module _ {P N : Type 0} where
   primary_kept stepping r vp vn t world parts links parts1 links1 actors1 ports1 up l was pass_is table wakes =
       let c = part_course r in
       let k = link_course r in
-      let end : ℕ = 501000000000 in
+      let end : ℕ = LATEST_TICK in
       let ci = part_is r vp vn up in
       let ki = link_is r vp vn up in
       let w = world_at r t in
@@ -135,7 +136,7 @@ module _ {P N : Type 0} where
       }
 
   -- the secondary pass and its wakes
-  pub secondary_kept : (stepping : Stepping) (r : System P N) (vp : P → Type 0) (vn : N → Type 0) (t : ℕ) (world : WorldPlaces P N) (parts links parts1 links1 : List (Option ℕ)) (actors1 : List (Option N)) (ports1 : List (Option PortView)) → IsSetUp r vp vn → t ≤ 500000000000 → IsMid r t world parts links →
+  pub secondary_kept : (stepping : Stepping) (r : System P N) (vp : P → Type 0) (vn : N → Type 0) (t : ℕ) (world : WorldPlaces P N) (parts links parts1 links1 : List (Option ℕ)) (actors1 : List (Option N)) (ports1 : List (Option PortView)) → IsSetUp r vp vn → t ≤ LATEST_TIME → IsMid r t world parts links →
       (let h = side_of world.links world.ports in
       side_places actors1 ports1 ≡ whole_side (pass r.link r.link_wires (chosen stepping links t) t h)
       → IsTable links1 (λ i. next_after r.link t (outcome r.link r.link_wires (chosen stepping links t) t h i) (next_at_place links i)) (length h.states)
@@ -144,7 +145,7 @@ module _ {P N : Type 0} where
   secondary_kept stepping r vp vn t world parts links parts1 links1 actors1 ports1 up l was pass_is table wakes =
       let c = part_course r in
       let k = link_course r in
-      let end : ℕ = 501000000000 in
+      let end : ℕ = LATEST_TICK in
       let ci = part_is r vp vn up in
       let ki = link_is r vp vn up in
       let w = mid r t in

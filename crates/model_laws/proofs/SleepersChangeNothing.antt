@@ -1,6 +1,7 @@
 -- Who sleeps changes nothing.
 use Rattle.std.specs.Prelude.{◌≡◌, ℕ, ◌+◌, ◌*◌, ◌/◌, ◌<◌, ◌≤◌, ◌==◌, ◌&&◌, List, [], ◌∷◌, length, Option, Some, None, Bool, true, false, slice_get, refl}
 use Rattle.std.proofs.Common.{zero, suc, sym, ◌∙◌, ap, subst, arith, get_or}
+use Rattle.sim_base.specs.declared.time.TheConstants.{LATEST_TICK}
 use Rattle.port_msg.specs.PortView.{PortView, port_view}
 use Rattle.tick_law.specs.Machine.{Machine}
 use Rattle.tick_law.specs.Frame.{AllPorts, IsPort}
@@ -60,7 +61,7 @@ one_of_ports [] k d a b = b
 one_of_ports (p ∷ ps) zero d a b = a.0
 one_of_ports (p ∷ ps) (suc k) d a b = one_of_ports ps k d a.1 b
 
-pub time : (t p : ℕ) → t ≤ 501000000000 → t / p * p ≤ 501000000000
+pub time : (t p : ℕ) → t ≤ LATEST_TICK → t / p * p ≤ LATEST_TICK
 time t p h = grind arith
 
 module _ {S : Type 0} where
@@ -93,7 +94,7 @@ module _ {S : Type 0} where
       side_is : (a b : List S) (p q : List PortView) → a ≡ b → p ≡ q → let x : Side S = record { states = a; ports = p } in let y : Side S = record { states = b; ports = q } in x ≡ y
       side_is a b p q e f = cc
 
-  sound_state : (m : Machine S) (valid : S → Type 0) (w : Wires) (stepped : ℕ → Bool) (t : ℕ) (h : Side S) → Lawful m valid → Wired w (length h.ports) → t ≤ 501000000000 → IsSound m valid w h → (i : ℕ) (s : S) → slice_get h.states i ≡ Some s → (b : Bool) → valid (state_if b (step_of m w t h.ports i s).state s) × (length (own_of w i) ≡ m.own (state_if b (step_of m w t h.ports i s).state s))
+  sound_state : (m : Machine S) (valid : S → Type 0) (w : Wires) (stepped : ℕ → Bool) (t : ℕ) (h : Side S) → Lawful m valid → Wired w (length h.ports) → t ≤ LATEST_TICK → IsSound m valid w h → (i : ℕ) (s : S) → slice_get h.states i ≡ Some s → (b : Bool) → valid (state_if b (step_of m w t h.ports i s).state s) × (length (own_of w i) ≡ m.own (state_if b (step_of m w t h.ports i s).state s))
   sound_state m valid w stepped t h law wired small sound i s at true =
       let had = sound.states i s at in
       let ports = sound_gather h.ports (own_of w i) sound.ports (λ q has. wired.within i q has) in
@@ -101,7 +102,7 @@ module _ {S : Type 0} where
       ((law.stays s (gather h.ports (own_of w i)) (t / m.period s) had.0 ports count (time t (m.period s) small)).0, had.1 ∙ sym (law.framed s (gather h.ports (own_of w i)) (t / m.period s) had.0 ports count).own)
   sound_state m valid w stepped t h law wired small sound i s at false = sound.states i s at
 
-  sound_port : (m : Machine S) (valid : S → Type 0) (w : Wires) (stepped : ℕ → Bool) (t : ℕ) (h : Side S) → Lawful m valid → Wired w (length h.ports) → t ≤ 501000000000 → IsSound m valid w h → (q : ℕ) (p : PortView) → slice_get h.ports q ≡ Some p → (o : Option S) → slice_get h.states (owner_of w q) ≡ o → IsPort (port_from m w stepped t h.ports q p o)
+  sound_port : (m : Machine S) (valid : S → Type 0) (w : Wires) (stepped : ℕ → Bool) (t : ℕ) (h : Side S) → Lawful m valid → Wired w (length h.ports) → t ≤ LATEST_TICK → IsSound m valid w h → (q : ℕ) (p : PortView) → slice_get h.ports q ≡ Some p → (o : Option S) → slice_get h.states (owner_of w q) ≡ o → IsPort (port_from m w stepped t h.ports q p o)
   sound_port m valid w stepped t h law wired small sound q p at None e = sound.ports q p at
   sound_port m valid w stepped t h law wired small sound q p at (Some s) e = by_flag (stepped (owner_of w q) && has_edge m t s)
     where
@@ -114,7 +115,7 @@ module _ {S : Type 0} where
           one_of_ports (step_of m w t h.ports i s).ports (place q (own_of w i)) p (law.stays s (gather h.ports (own_of w i)) (t / m.period s) had.0 ports count (time t (m.period s) small)).1 (sound.ports q p at)
       by_flag false = sound.ports q p at
 
-  pub pass_sound : (m : Machine S) (valid : S → Type 0) (w : Wires) (stepped : ℕ → Bool) (t : ℕ) (h : Side S) → Lawful m valid → Wired w (length h.ports) → t ≤ 501000000000 → IsSound m valid w h → IsSound m valid w (pass m w stepped t h)
+  pub pass_sound : (m : Machine S) (valid : S → Type 0) (w : Wires) (stepped : ℕ → Bool) (t : ℕ) (h : Side S) → Lawful m valid → Wired w (length h.ports) → t ≤ LATEST_TICK → IsSound m valid w h → IsSound m valid w (pass m w stepped t h)
   pass_sound m valid w stepped t h law wired small sound = record {
     states = λ i s e.
         let b = map_index_back (state_after m w stepped t h.ports) 0 h.states i s e in

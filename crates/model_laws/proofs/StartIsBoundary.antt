@@ -1,6 +1,7 @@
 -- What an engine keeps is true of a start.
 use Rattle.std.specs.Prelude.{◌≡◌, ℕ, ◌+◌, ◌-◌, ◌/◌, ◌%◌, ◌<◌, ◌≤◌, ◌⊎◌, ◌==◌, ◌||◌, List, length, Option, Some, None, Bool, true, false, slice_get, refl}
 use Rattle.std.proofs.Common.{zero, suc, sym, ◌∙◌, ap, subst, arith, inl, inr}
+use Rattle.sim_base.specs.declared.time.TheConstants.{LATEST_TICK}
 use Rattle.sim_base.specs.Edge.{edge_from}
 use Rattle.tick_law.specs.Pass.{Side}
 use Rattle.tick_law.specs.Starts.{timer_at, AreNext}
@@ -128,7 +129,7 @@ module _ {P N : Type 0} where
       let c = part_course r in
       let k = link_course r in
       let from = r.start.at in
-      let end : ℕ = 501000000000 in
+      let end : ℕ = LATEST_TICK in
       record {
         begun = omega arith;
         world_is = ap whole_world (sym (world_begin r from (omega arith)));

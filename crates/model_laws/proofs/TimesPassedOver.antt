@@ -2,6 +2,7 @@
 use Rattle.std.specs.Prelude.{◌≡◌, ℕ, ◌+◌, ◌-◌, ◌<◌, ◌≤◌, List, ◌++◌, length, Option, Some, None, Bool, false, refl}
 use Rattle.std.proofs.Common.{zero, suc, sym, ◌∙◌, ap, subst, arith, add-one, append-nil, append_assoc}
 use Rattle.std.proofs.lemmas.Bool.Decides.{nat_tests}
+use Rattle.sim_base.specs.declared.time.TheConstants.{LATEST_TIME}
 use Rattle.port_msg.specs.declared.records.Record.{Record}
 use Rattle.tick_law.specs.WorldPlaces.{WorldPlaces}
 use Rattle.tick_law.specs.SerialLoop.{System, whole_world, pick, records_at_time, records_below, stirs_at, end_below}
@@ -18,7 +19,7 @@ not_due None d h = refl
 not_due (Some t) d h = let l = h t refl in grind (arith, nat_tests, l)
 
 module _ {P N : Type 0} where
-  once : (r : System P N) (vp : P → Type 0) (vn : N → Type 0) (d e : ℕ) (world : WorldPlaces P N) (parts links : List (Option ℕ)) → IsSetUp r vp vn → e ≤ 500000000000 → NoneBelow parts (length r.start.world.parts) (suc e) → NoneBelow links (length r.start.world.links) (suc e) → Reached r d e world parts links → Reached r d (suc e) world parts links
+  once : (r : System P N) (vp : P → Type 0) (vn : N → Type 0) (d e : ℕ) (world : WorldPlaces P N) (parts links : List (Option ℕ)) → IsSetUp r vp vn → e ≤ LATEST_TIME → NoneBelow parts (length r.start.world.parts) (suc e) → NoneBelow links (length r.start.world.links) (suc e) → Reached r d e world parts links → Reached r d (suc e) world parts links
   once r vp vn d e world parts links up l np nl was =
       let rest : Rest r e = record {
         parts = λ i b. not_due (part_next r e i) e (λ t f. np.none i b t (was.boundary.parts_are.at i b ∙ f));

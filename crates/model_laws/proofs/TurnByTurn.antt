@@ -3,6 +3,7 @@ use Rattle.std.proofs.Common.{◌≡◌, ◌≢◌, ℕ, ◌+◌, ◌-◌, ◌*�
 use Rattle.std.specs.Prelude.{Option, Some, None, Bool, true, false, ◌==◌, ◌||◌, slice_get, slice_set, IsTrue}
 use Rattle.std.proofs.lemmas.Bool.{eq-eqb}
 use Rattle.std.proofs.lemmas.Bool.Decides.{nat_tests}
+use Rattle.sim_base.specs.declared.time.TheConstants.{LATEST_TICK}
 use Rattle.port_msg.specs.PortView.{PortView}
 use Rattle.port_msg.specs.RecView.{records_at}
 use Rattle.port_msg.specs.declared.records.Record.{Record}
@@ -166,7 +167,7 @@ module _ {S : Type 0} where
     pub long_actors : length actors' ≡ length actors
     pub long_ports : length ports' ≡ length ports
 
-  pub can_turn : (m : Machine S) (valid : S → Type 0) (w : Wires) (stepped : ℕ → Bool) (t : ℕ) (actors actors' : List (Option S)) (ports ports' : List (Option PortView)) (hand room : ℕ) → Lawful m valid → IsFull actors → IsFull ports → HasRoom S m w (side_of actors ports) hand room → IsSound m valid w (side_of actors ports) → t ≤ 501000000000 → side_places actors' ports' ≡ whole_side (pass m w stepped t (side_of actors ports)) → CanTurn m w actors actors' ports ports' hand room
+  pub can_turn : (m : Machine S) (valid : S → Type 0) (w : Wires) (stepped : ℕ → Bool) (t : ℕ) (actors actors' : List (Option S)) (ports ports' : List (Option PortView)) (hand room : ℕ) → Lawful m valid → IsFull actors → IsFull ports → HasRoom S m w (side_of actors ports) hand room → IsSound m valid w (side_of actors ports) → t ≤ LATEST_TICK → side_places actors' ports' ≡ whole_side (pass m w stepped t (side_of actors ports)) → CanTurn m w actors actors' ports ports' hand room
   can_turn m valid w stepped t actors actors' ports ports' hand room law fa fp fits sound small is =
       let h = side_of actors ports in
       let k = pass m w stepped t h in

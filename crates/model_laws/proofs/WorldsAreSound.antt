@@ -1,5 +1,6 @@
 -- Each world of the run is well formed.
 use Rattle.std.proofs.Common.{◌≡◌, ℕ, ◌≤◌, List, length, zero, suc, subst, sym, ◌∙◌, arith}
+use Rattle.sim_base.specs.declared.time.TheConstants.{LATEST_TICK}
 use Rattle.port_msg.specs.PortView.{PortView}
 use Rattle.tick_law.specs.Machine.{Machine}
 use Rattle.tick_law.specs.WorldPlaces.{alls, somes, IsWhole}
@@ -24,7 +25,7 @@ room_after m valid w h k hand recs f a b s = record {
 }
 
 module _ {P N : Type 0} where
-  good_prim : (r : System P N) (vp : P → Type 0) (vn : N → Type 0) (t : ℕ) (w : WorldState P N) → Lawful r.part vp → Wired r.part_wires (length r.start.world.ports) → t ≤ 501000000000 → IsWellFormed r vp vn w → IsWellFormed r vp vn (prim r.part r.part_wires r.start.at w t)
+  good_prim : (r : System P N) (vp : P → Type 0) (vn : N → Type 0) (t : ℕ) (w : WorldState P N) → Lawful r.part vp → Wired r.part_wires (length r.start.world.ports) → t ≤ LATEST_TICK → IsWellFormed r vp vn w → IsWellFormed r vp vn (prim r.part r.part_wires r.start.at w t)
   good_prim r vp vn t w law wired small g =
       let s = pass_sound r.part vp r.part_wires (begun r.start.at t) t (parts_of w) law (subst (Wired r.part_wires) (sym g.port_count) wired) small g.parts in
       record {
@@ -35,7 +36,7 @@ module _ {P N : Type 0} where
         links = record { states = g.links.states; ports = s.ports };
       }
 
-  good_sec : (r : System P N) (vp : P → Type 0) (vn : N → Type 0) (t : ℕ) (w : WorldState P N) → Lawful r.link vn → Wired r.link_wires (length r.start.world.ports) → t ≤ 501000000000 → IsWellFormed r vp vn w → IsWellFormed r vp vn (sec r.link r.link_wires r.start.at w t)
+  good_sec : (r : System P N) (vp : P → Type 0) (vn : N → Type 0) (t : ℕ) (w : WorldState P N) → Lawful r.link vn → Wired r.link_wires (length r.start.world.ports) → t ≤ LATEST_TICK → IsWellFormed r vp vn w → IsWellFormed r vp vn (sec r.link r.link_wires r.start.at w t)
   good_sec r vp vn t w law wired small g =
       let s = pass_sound r.link vn r.link_wires (begun r.start.at t) t (links_of w) law (subst (Wired r.link_wires) (sym g.port_count) wired) small g.links in
       record {

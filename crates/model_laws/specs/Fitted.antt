@@ -1,5 +1,6 @@
 -- What a gear and a run owe one another.
 use Rattle.std.specs.Prelude.{◌≡◌, ℕ, ◌<◌, ◌≤◌, List, length, Option, true, false, ◌+◌, ◌^◌, slice_index_or}
+use Rattle.sim_base.specs.declared.time.TheConstants.{LONGEST_PERIOD}
 use Rattle.tick_law.specs.Wires.{Wires, owner_of, Wired}
 use Rattle.tick_law.specs.Pass.{pass}
 use Rattle.tick_law.specs.SerialLoop.{System, parts_of, links_of}
@@ -27,7 +28,7 @@ pub record Wakes (w : Wires) (ports : ℕ) (periods : List ℕ) (next : List (Op
   pub owner : length w.owner ≡ ports
   pub owned : (q : ℕ) → q < ports → owner_of w q < length next
   pub all : length periods ≡ length next
-  pub held : (i : ℕ) → i < length periods → (0 < slice_index_or periods i 0) × (slice_index_or periods i 0 ≤ 1000000000)
+  pub held : (i : ℕ) → i < length periods → (0 < slice_index_or periods i 0) × (slice_index_or periods i 0 ≤ LONGEST_PERIOD)
 
 -- what a run's gear is
 pub record Fitted {P N : Type 0} (r : System P N) (vp : P → Type 0) (vn : N → Type 0) (hand room : ℕ) (part_periods link_periods : List ℕ) : Type 0 where
@@ -40,5 +41,5 @@ pub record Fitted {P N : Type 0} (r : System P N) (vp : P → Type 0) (vn : N �
   pub link_owner : length r.link_wires.owner ≡ length r.start.world.ports
   pub part_count : length part_periods ≡ length r.start.world.parts
   pub link_count : length link_periods ≡ length r.start.world.links
-  pub part_period : (i : ℕ) → i < length r.start.world.parts → (slice_index_or part_periods i 0 ≡ period (part_course r) i) × (0 < slice_index_or part_periods i 0) × (slice_index_or part_periods i 0 ≤ 1000000000)
-  pub link_period : (i : ℕ) → i < length r.start.world.links → (slice_index_or link_periods i 0 ≡ period (link_course r) i) × (0 < slice_index_or link_periods i 0) × (slice_index_or link_periods i 0 ≤ 1000000000)
+  pub part_period : (i : ℕ) → i < length r.start.world.parts → (slice_index_or part_periods i 0 ≡ period (part_course r) i) × (0 < slice_index_or part_periods i 0) × (slice_index_or part_periods i 0 ≤ LONGEST_PERIOD)
+  pub link_period : (i : ℕ) → i < length r.start.world.links → (slice_index_or link_periods i 0 ≡ period (link_course r) i) × (0 < slice_index_or link_periods i 0) × (slice_index_or link_periods i 0 ≤ LONGEST_PERIOD)

@@ -1,6 +1,7 @@
 -- A link of any kind: its step is that of its kind.
 use Rattle.std.specs.Prelude.{◌≡◌, ℕ, ◌*◌, ◌^◌, ◌<◌, ◌≤◌, List, length, Option, Some, Bool, false}
 use Rattle.std.proofs.Common.{ap}
+use Rattle.sim_base.specs.declared.time.TheConstants.{LATEST_TICK, LONGEST_PERIOD}
 use Rattle.port_msg.specs.PortView.{PortView}
 use Rattle.tick_law.specs.Machine.{Machine, Outcome}
 use Rattle.tick_law.specs.Frame.{AllPorts, Framed}
@@ -38,7 +39,7 @@ IsValid (Direct s) = IsDirect s
 pub link_framed : (s : LinkKind) (ports : List PortView) (n : ℕ) → IsValid s → AllPorts ports → length ports ≡ link_own s → Framed LinkKind link s ports n
 link_framed (Direct s) ports n v o e = let f = direct_framed s ports n v o e in record { period = f.period; own = f.own; ports = f.ports; records = f.records }
 
-pub link_stays : (s : LinkKind) (ports : List PortView) (n : ℕ) → IsValid s → AllPorts ports → length ports ≡ link_own s → n * link_period s ≤ 501000000000 → IsValid (link_step s ports n).state × AllPorts (link_step s ports n).ports
+pub link_stays : (s : LinkKind) (ports : List PortView) (n : ℕ) → IsValid s → AllPorts ports → length ports ≡ link_own s → n * link_period s ≤ LATEST_TICK → IsValid (link_step s ports n).state × AllPorts (link_step s ports n).ports
 link_stays (Direct s) ports n v o e b = direct_stays s ports n v o e b
 
 pub link_quiet : (s : LinkKind) (ports : List PortView) (n : ℕ) → IsValid s → length ports ≡ link_own s → (link_step s ports n).flag ≡ false → Quiet LinkKind link s ports n
@@ -50,5 +51,5 @@ link_due_later (Direct s) n t v e = cc
 pub link_due_steady : (s : LinkKind) (n k : ℕ) → IsValid s → n ≤ k → ((t : ℕ) → link_due s n ≡ Some t → k < t) → link_due s k ≡ link_due s n
 link_due_steady (Direct s) n k v l h = cc
 
-pub link_period_within : (s : LinkKind) → IsValid s → (0 < link_period s) × (link_period s ≤ 1000000000)
+pub link_period_within : (s : LinkKind) → IsValid s → (0 < link_period s) × (link_period s ≤ LONGEST_PERIOD)
 link_period_within (Direct s) v = (v.0, v.1)

@@ -1,6 +1,7 @@
 -- A part of any kind: its step is that of its kind.
 use Rattle.std.specs.Prelude.{◌≡◌, ℕ, ◌*◌, ◌^◌, ◌<◌, ◌≤◌, List, length, Option, Some, Bool, true, false}
 use Rattle.std.proofs.Common.{ap}
+use Rattle.sim_base.specs.declared.time.TheConstants.{LATEST_TICK, LONGEST_PERIOD}
 use Rattle.port_msg.specs.PortView.{PortView}
 use Rattle.tick_law.specs.Machine.{Machine, Outcome}
 use Rattle.tick_law.specs.Frame.{AllPorts, Framed}
@@ -56,7 +57,7 @@ part_framed (Relay s) ports n v o e = let f = relay_framed s ports n v o e in re
 part_framed (Agent s) ports n v o e = let f = agent_framed s ports n v o e in record { period = f.period; own = f.own; ports = f.ports; records = f.records }
 part_framed (Memory s) ports n v o e = let f = memory_framed s ports n v o e in record { period = f.period; own = f.own; ports = f.ports; records = f.records }
 
-pub part_stays : (s : Part) (ports : List PortView) (n : ℕ) → IsValid s → AllPorts ports → length ports ≡ part_own s → n * part_period s ≤ 501000000000 → IsValid (part_step s ports n).state × AllPorts (part_step s ports n).ports
+pub part_stays : (s : Part) (ports : List PortView) (n : ℕ) → IsValid s → AllPorts ports → length ports ≡ part_own s → n * part_period s ≤ LATEST_TICK → IsValid (part_step s ports n).state × AllPorts (part_step s ports n).ports
 part_stays (Relay s) ports n v o e b = relay_stays s ports n v o e b
 part_stays (Agent s) ports n v o e b = agent_stays s ports n v o e b
 part_stays (Memory s) ports n v o e b = memory_stays s ports n v o e b
@@ -76,7 +77,7 @@ part_due_steady (Relay s) n k v l h = cc
 part_due_steady (Agent s) n k v l h = agent_due_steady s n k v l h
 part_due_steady (Memory s) n k v l h = memory_due_steady s n k v l h
 
-pub part_period_within : (s : Part) → IsValid s → (0 < part_period s) × (part_period s ≤ 1000000000)
+pub part_period_within : (s : Part) → IsValid s → (0 < part_period s) × (part_period s ≤ LONGEST_PERIOD)
 part_period_within (Relay s) v = (v.0, v.1)
 part_period_within (Agent s) v = agent_period_within s v
 part_period_within (Memory s) v = memory_period_within s v

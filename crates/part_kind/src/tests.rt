@@ -4,7 +4,9 @@ use addr_map::{Range, Ranges, Targets};
 use mem_ctrl::{Memory, MemoryText};
 use port_msg::{DATA_BYTES, Msg, MsgId, MsgKind, Port, RecList, What};
 use port_row::Ports;
-use sim_base::{ActorNo, Body, Mode, OutOfMemory, PartNo, PortNo, Steps};
+use sim_base::{
+    ActorNo, Body, LATEST_TICK, LONGEST_PERIOD, Mode, OutOfMemory, PartNo, PortNo, Steps,
+};
 use std::alloc::Global;
 use std::marker::Brand;
 use std::sync::ledger::{Blank, Ledger};
@@ -30,7 +32,7 @@ fn ranges_to(alloc: Global, to: PortNo) -> Result<Ranges, OutOfMemory>
 /// An agent at port 0 that asks for 64 bytes at port 1.
 fn open_agent(alloc: Global, period: u64, count: u32, mode: Mode) -> Result<Agent, OutOfMemory>
     requires some { 1 ≤ period }
-    requires short { period ≤ 1000000000 }
+    requires short { period ≤ LONGEST_PERIOD }
     requires count { count ≤ 1000000 }
 {
     let text = AgentText {
@@ -53,7 +55,7 @@ fn open_agent(alloc: Global, period: u64, count: u32, mode: Mode) -> Result<Agen
 /// A memory of 512 bytes at port 1, all of them 7, in which one request can wait.
 fn open_memory(alloc: Global, period: u64, base: u32, latency: u32) -> Result<Memory, OutOfMemory>
     requires some { 1 ≤ period }
-    requires short { period ≤ 1000000000 }
+    requires short { period ≤ LONGEST_PERIOD }
     requires base { base ≤ 1000000 }
     requires latency { latency ≤ 1000000 }
 {
@@ -95,7 +97,7 @@ fn first_done<A: Actor, L: Ledger>(
     let Some(cycle) = cycle else {
         return Ok(None);
     };
-    if cycle.saturating_mul(actor.period()) > 501_000_000_000 {
+    if cycle.saturating_mul(actor.period()) > LATEST_TICK {
         return Ok(None);
     }
     let mut recs = RecList::open(alloc, 64)?;

@@ -11,7 +11,7 @@ use crate::opening::{hollow_rows, places_of};
 use crate::side::SideOf;
 use port_msg::{Port, RecList};
 use port_row::{Face, Ports};
-use sim_base::{OutOfMemory, Steps};
+use sim_base::{LATEST_TICK, OutOfMemory, Steps};
 use std::alloc::Global;
 use std::marker::Model;
 use std::sync::ledger::Ledger;
@@ -114,7 +114,7 @@ impl PortRows {
     ) -> bool
         requires here { no < length self.old.wires.own }
         requires own { length (own_of self.old.wires no) ≡ N.machine.own link.old }
-        requires time { cycle * N.machine.period link.old ≤ 501000000000 }
+        requires time { cycle * N.machine.period link.old ≤ LATEST_TICK }
         requires room { length recs.old.items + 64 * length (own_of self.old.wires no) ≤ recs.old.room }
 
         ensures state { link.new ≡ (N.machine.step link.old (gather self.old.ports (own_of self.old.wires no)) cycle).state }
@@ -141,7 +141,7 @@ impl PortRows {
         requires same { length own.now ≡ length hand.old.ports }
         requires apart { AllApart own.now }
         requires own { length own.now ≡ P.machine.own part.old }
-        requires time { cycle * P.machine.period part.old ≤ 501000000000 }
+        requires time { cycle * P.machine.period part.old ≤ LATEST_TICK }
         requires room { length recs.old.items + 64 * length own.now ≤ recs.old.room }
 
         ensures state { part.new ≡ (P.machine.step part.old (gather self.old.ports own.now) cycle).state }

@@ -1,6 +1,7 @@
 -- An agent: what its state is, and what it does in a step.
 use Rattle.std.specs.Prelude.{ℕ, ◌+◌, ◌-◌, ◌*◌, ◌%◌, ◌^◌, ◌<◌, ◌≤◌, ◌==◌, ◌&&◌, ◌++◌, List, [], ◌∷◌, drop, Option, Some, None, Bool, true, false, cond, nat_lt, nat_le, replicate}
 use Rattle.std.specs.Int.{w32, to_le_bytes, from_le_bytes}
+use Rattle.sim_base.specs.declared.time.TheConstants.{LATEST_TICK, LONGEST_PERIOD}
 use Rattle.port_msg.specs.PortView.{PortView}
 use Rattle.port_msg.specs.declared.message.Msg.{Msg}
 use Rattle.port_msg.specs.declared.message.MsgKind.{MsgKind}
@@ -37,14 +38,14 @@ pub record AgentState : Type 0 where
 -- a state that an agent can be in
 pub record IsAgent (s : AgentState) : Type 0 where
   pub period_some : 0 < s.period
-  pub period_short : s.period ≤ 1000000000
+  pub period_short : s.period ≤ LONGEST_PERIOD
   pub span_some : 4 ≤ s.span
   pub within_addresses : s.base + s.span ≤ 2 ^ 32
   pub count_most : s.count ≤ 1000000
   pub gap_short : s.gap ≤ 1000000
   pub answered_issued : s.answered ≤ s.issued
   pub issued_few : s.issued ≤ s.count
-  pub early : s.next * s.period ≤ 501000000000 + 1000000 * s.period
+  pub early : s.next * s.period ≤ LATEST_TICK + 1000000 * s.period
 
 -- the state that an agent starts in
 abbrev pub agent_opening : AgentText → AgentState

@@ -2,6 +2,7 @@
 use Rattle.std.specs.Prelude.{◌≡◌, ℕ, ◌+◌, ◌-◌, ◌*◌, ◌^◌, ◌<◌, ◌≤◌, ◌&&◌, List, [], ◌∷◌, length, Option, Some, None, Bool, true, false, nat_lt, nat_le, refl}
 use Rattle.std.proofs.Common.{sym, ◌∙◌, ap, subst, arith}
 use Rattle.std.proofs.lemmas.Bool.Decides.{nat_tests}
+use Rattle.sim_base.specs.declared.time.TheConstants.{LATEST_TICK, LONGEST_PERIOD}
 use Rattle.port_msg.specs.PortView.{PortView}
 use Rattle.port_msg.specs.declared.message.Msg.{Msg}
 use Rattle.sim_base.specs.declared.numbers.PortNo.{PortNo}
@@ -17,7 +18,7 @@ use Rattle.traffic_parts.specs.Agent.{AgentState, IsAgent, is_answer, answer_tak
 -- the period stays, and a state that an agent can be in leads to one
 record Stays (n : ℕ) (s t : AgentState) : Type 0 where
   period : t.period ≡ s.period
-  valid : IsAgent s → n * s.period ≤ 501000000000 → IsAgent t
+  valid : IsAgent s → n * s.period ≤ LATEST_TICK → IsAgent t
 
 stays_same : (n : ℕ) (s : AgentState) → Stays n s s
 stays_same n s = record { period = refl; valid = λ v e. v }
@@ -37,7 +38,7 @@ pub one_answered : (s : AgentState) (total : ℕ) → IsAgent s → s.answered <
 one_answered s total v l = record { period_some = v.period_some; period_short = v.period_short; span_some = v.span_some; within_addresses = v.within_addresses; count_most = v.count_most; gap_short = v.gap_short; answered_issued = omega (arith, l); issued_few = v.issued_few; early = v.early }
 
 -- one more is issued
-pub one_issued : (s : AgentState) (n value : ℕ) → IsAgent s → n * s.period ≤ 501000000000 → s.issued < s.count → IsAgent (record s { issued = s.issued + 1; next = n + s.gap; value = value })
+pub one_issued : (s : AgentState) (n value : ℕ) → IsAgent s → n * s.period ≤ LATEST_TICK → s.issued < s.count → IsAgent (record s { issued = s.issued + 1; next = n + s.gap; value = value })
 one_issued s n value v b l = record { period_some = v.period_some; period_short = v.period_short; span_some = v.span_some; within_addresses = v.within_addresses; count_most = v.count_most; gap_short = v.gap_short; answered_issued = omega (arith, v.answered_issued); issued_few = omega (arith, l); early = set_early n s.gap s.period b v.gap_short }
 
 kept_answer_of : (n : ℕ) (s : AgentState) (p : PortView) (o : Option Msg) → Kept (Stays n) 1 s p (answer_of s p o)
@@ -79,7 +80,7 @@ agent_framed s (p ∷ ps) n v o e =
     let k = kept_both n s p in
     record { period = k.state.period; own = refl; ports = (k.framed, frames_same true ps); records = omega (arith, k.few) }
 
-pub agent_stays : (s : AgentState) (ports : List PortView) (n : ℕ) → IsAgent s → AllPorts ports → length ports ≡ 1 → n * s.period ≤ 501000000000 → IsAgent (agent.step s ports n).state × AllPorts (agent.step s ports n).ports
+pub agent_stays : (s : AgentState) (ports : List PortView) (n : ℕ) → IsAgent s → AllPorts ports → length ports ≡ 1 → n * s.period ≤ LATEST_TICK → IsAgent (agent.step s ports n).state × AllPorts (agent.step s ports n).ports
 agent_stays s [] n v o e b = (v, tt)
 agent_stays s (p ∷ ps) n v o e b = let k = kept_both n s p in (k.state.valid v b, (k.port_ok o.0, o.1))
 
@@ -167,5 +168,5 @@ agent_due_steady s n k v l h = by_test (is_open s) h
     by_test false g = refl
     by_test true g = above_steady s.next n k l g
 
-pub agent_period_within : (s : AgentState) → IsAgent s → (0 < s.period) × (s.period ≤ 1000000000)
+pub agent_period_within : (s : AgentState) → IsAgent s → (0 < s.period) × (s.period ≤ LONGEST_PERIOD)
 agent_period_within s v = (v.period_some, v.period_short)

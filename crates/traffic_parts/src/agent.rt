@@ -9,7 +9,7 @@ use crate::draw::{address_of, value_after, writes};
 use addr_map::{AddrMap, Ranges};
 use port_msg::{DATA_BYTES, Msg, MsgId, MsgKind, RecList, What};
 use port_row::Ports;
-use sim_base::{ActorNo, Mode, OutOfMemory, PartNo, PortNo, Steps};
+use sim_base::{ActorNo, LATEST_TICK, LONGEST_PERIOD, Mode, OutOfMemory, PartNo, PortNo, Steps};
 use std::alloc::Global;
 use std::marker::Model;
 use std::sync::ledger::Ledger;
@@ -120,7 +120,7 @@ impl Agent {
     /// An agent that has made no requests.
     pub fn open(alloc: Global, text: &AgentText) -> Result<Agent, OutOfMemory>
         requires some { 1 ≤ text.now.period }
-        requires short { text.now.period ≤ 1000000000 }
+        requires short { text.now.period ≤ LONGEST_PERIOD }
         requires shape { All IsRange text.now.map }
         requires apart { AllPairs Apart text.now.map }
         requires span { 4 ≤ text.now.span }
@@ -292,7 +292,7 @@ impl Agent {
     /// A request was sent at a cycle: it counts, its value was drawn, and the next one comes the gap later.
     fn note_request(&mut self, cycle: u64, value: u32)
         requires few { self.old.issued < self.old.count }
-        requires time { cycle * self.old.period ≤ 501000000000 }
+        requires time { cycle * self.old.period ≤ LATEST_TICK }
 
         ensures { self.new ≡ record self.old { issued = self.old.issued + 1; next = cycle + self.old.gap; value = value } }
     {
@@ -306,7 +306,7 @@ impl Agent {
     fn send_request(&mut self, ports: &mut Ports, cycle: u64, recs: &mut RecList) -> bool
         requires port { 0 < length ports.old.ports }
         requires room { length recs.old.items < recs.old.room }
-        requires time { cycle * self.old.period ≤ 501000000000 }
+        requires time { cycle * self.old.period ≤ LATEST_TICK }
 
         ensures state { self.new ≡ (send_request cycle self.old (port_at ports.old.ports 0)).state }
         ensures port { ports.new ≡ record ports.old { ports = slice_set ports.old.ports 0 (send_request cycle self.old (port_at ports.old.ports 0)).port } }

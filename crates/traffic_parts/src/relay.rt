@@ -6,7 +6,7 @@ ghost use Rattle.traffic_parts.specs.Relay.{RelayState, IsRelay, token, send_hel
 
 use port_msg::{DATA_BYTES, Msg, MsgId, MsgKind, RecList, What};
 use port_row::Ports;
-use sim_base::{ActorNo, OutOfMemory, PartNo, PortNo, Steps};
+use sim_base::{ActorNo, LONGEST_PERIOD, OutOfMemory, PartNo, PortNo, Steps};
 use std::alloc::Global;
 use std::marker::Model;
 use std::sync::ledger::Ledger;
@@ -52,7 +52,7 @@ impl Relay {
     /// A relay that holds the token that it starts with, if any, and has sent and ended none.
     pub fn open(_alloc: Global, text: &RelayText) -> Result<Relay, OutOfMemory>
         requires some { 1 ≤ text.now.period }
-        requires short { text.now.period ≤ 1000000000 }
+        requires short { text.now.period ≤ LONGEST_PERIOD }
         requires hops { ForSome text.now.start (λ h. (1 ≤ h) × (h ≤ MOST_HOPS)) }
 
         ensures { result ≡ Ok (opening text.now) }
