@@ -39,3 +39,7 @@ is_held r addr = nat_le r.base addr && nat_lt addr (r.base + r.size)
 abbrev pub target_at : List Range → ℕ → Option PortNo
 target_at [] addr = None
 target_at (r ∷ rs) addr = cond (is_held r addr) (target_of r addr) (target_at rs addr)
+
+-- a range of these fields
+abbrev pub range_of : ℕ → ℕ → ℕ → List PortNo → Range
+range_of base size granule to = record { base = base; size = size; granule = granule; to = to }

@@ -124,7 +124,7 @@ mod tests {
         granule: u32,
         to: &[PortNo],
     ) -> Result<Range, OutOfMemory>
-        ensures { IfOk result (λ range. range ≡ record { base = base; size = size; granule = granule; to = to.now }) }
+        ensures { IfOk result (λ range. range ≡ range_of base size granule to.now) }
     {
         let to = Targets::of(Vec::from_slice(alloc, to)?);
         Ok(Range {

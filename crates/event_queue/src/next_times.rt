@@ -1,6 +1,7 @@
 ghost use Rattle.std.specs.Prelude.{◌≡◌, ℕ, ◌+◌, ◌*◌, ◌^◌, ◌<◌, ◌≤◌, ◌↔◌, true, Some, None, List, Option, length, replicate, slice_set, All, IsNone, IfNone, IfOk, IfSome};
 ghost use Rattle.bit_set.specs.Bits.{is_in};
-ghost use Rattle.event_queue.specs.NextTimes.{time_of, earlier, IsFirst, NoneDue, IsLeastDue, count_due_by};
+ghost use Rattle.event_queue.specs.Mark.{AllMarked};
+ghost use Rattle.event_queue.specs.NextTimes.{time_of, IsFirst, NoneDue, IsLeastDue, count_due_by, earlier_set};
 ghost use Rattle.event_queue.specs.Merged.{merged, IsApart};
 
 use crate::lesser::lesser;
@@ -94,7 +95,7 @@ impl NextTimes {
     pub fn set_earlier<L: Ledger>(&mut self, who: ActorNo, t: Time, looks: &mut Steps<L>)
         requires { who.0 < length self.old }
 
-        ensures set { self.new ≡ slice_set self.old who.0 (Some (earlier (time_of self.old who.0) t)) }
+        ensures set { self.new ≡ earlier_set self.old who.0 t }
         ensures cost { (b : ℕ) → length self.old < 2 ^ b → looks.new ≤ looks.old + 2 * b + 2 }
     {
         match self.near.next_of(who) {
@@ -187,7 +188,7 @@ impl NextTimes {
     )
         requires { from.0 + length due.old ≡ below.0 }
         ensures long { length due.new ≡ length due.old }
-        ensures marked { (i : ℕ) → i < length due.old → time_of self.now (from.0 + i) ≡ Some t → is_in due.new i ≡ true }
+        ensures marked { AllMarked self.now t from.0 (length due.old) due.new }
         ensures only { (i : ℕ) → is_in due.new i ≡ true → time_of self.now (from.0 + i) ≡ Some t }
         ensures cost { looks.new ≤ looks.old + 2 * count_due_by self.now t + 1 }
     {

@@ -1,5 +1,5 @@
-ghost use Rattle.std.specs.Prelude.{◌≡◌, ℕ, ◌+◌, ◌<◌, ◌≤◌, ◌⊎◌, true, false, Some, None, length, replicate, slice_set, IsTrue, IfNone, IfOk, IfSome};
-ghost use Rattle.bit_set.specs.Bits.{is_in};
+ghost use Rattle.std.specs.Prelude.{◌≡◌, ◌+◌, ◌<◌, false, Some, None, length, replicate, slice_set, IsTrue, IfNone, IfOk, IfSome};
+ghost use Rattle.event_queue.specs.Mark.{AllMarked, OnlyAdds, Keeps};
 ghost use Rattle.event_queue.specs.NextTimes.{time_of, NoneDue, IsLeastDue};
 ghost use Rattle.event_queue.specs.Merged.{IsLeastIn};
 
@@ -109,9 +109,9 @@ impl TwoTimes {
     pub fn mark_due(&self, t: Time, from: ActorNo, below: ActorNo, due: &mut BitSet)
         requires { from.0 + length due.old ≡ below.0 }
         ensures long { length due.new ≡ length due.old }
-        ensures kept { (i : ℕ) → is_in due.old i ≡ true → is_in due.new i ≡ true }
-        ensures found { (i : ℕ) → is_in due.new i ≡ true → (is_in due.old i ≡ true) ⊎ (time_of self.now (from.0 + i) ≡ Some t) }
-        ensures marked { (i : ℕ) → i < length due.old → time_of self.now (from.0 + i) ≡ Some t → is_in due.new i ≡ true }
+        ensures kept { Keeps due.old due.new }
+        ensures found { OnlyAdds due.old due.new (λ i. time_of self.now (from.0 + i) ≡ Some t) }
+        ensures marked { AllMarked self.now t from.0 (length due.old) due.new }
     {
         self.one.mark_due(t, from, below, due);
         self.other.mark_due(t, from, below, due);

@@ -1,6 +1,5 @@
-ghost use Rattle.std.specs.Prelude.{◌≡◌, ◌+◌, ◌*◌, ◌^◌, ◌<◌, ◌≤◌, length, slice_set, IfOk, IsTrue};
-ghost use Rattle.tick_law.specs.Pass.{port_at};
-ghost use Rattle.port_msg.specs.RecView.{appended_all};
+ghost use Rattle.std.specs.Prelude.{◌≡◌, ◌+◌, ◌*◌, ◌^◌, ◌<◌, ◌≤◌, length, IfOk, IsTrue};
+ghost use Rattle.tick_law.specs.OnePort.{lone, ports_after, recs_after};
 ghost use Rattle.mem_ctrl.specs.Memory.{IsMemory, opening, byte_at, accepts, filled, read, read_answer, write_answer, answer, stored, serve, take_request, memory};
 
 use crate::waiting::Waiting;
@@ -213,10 +212,10 @@ impl Memory {
         requires port { 0 < length ports.old.ports }
         requires room { length recs.old.items < recs.old.room }
 
-        ensures state { self.new ≡ (serve self.old (port_at ports.old.ports 0) cycle).state }
-        ensures port { ports.new ≡ record ports.old { ports = slice_set ports.old.ports 0 (serve self.old (port_at ports.old.ports 0) cycle).port } }
-        ensures records { recs.new ≡ appended_all recs.old (serve self.old (port_at ports.old.ports 0) cycle).records }
-        ensures flag { result ≡ (serve self.old (port_at ports.old.ports 0) cycle).flag }
+        ensures state { self.new ≡ (serve self.old (lone ports.old) cycle).state }
+        ensures port { ports.new ≡ ports_after ports.old (serve self.old (lone ports.old) cycle) }
+        ensures records { recs.new ≡ recs_after recs.old (serve self.old (lone ports.old) cycle) }
+        ensures flag { result ≡ (serve self.old (lone ports.old) cycle).flag }
     {
         let Some(first) = self.queue.front().copied() else {
             return false;
@@ -241,10 +240,10 @@ impl Memory {
         requires room { length recs.old.items < recs.old.room }
         requires time { cycle * self.old.period ≤ LATEST_TICK }
 
-        ensures state { self.new ≡ (take_request cycle self.old (port_at ports.old.ports 0)).state }
-        ensures port { ports.new ≡ record ports.old { ports = slice_set ports.old.ports 0 (take_request cycle self.old (port_at ports.old.ports 0)).port } }
-        ensures records { recs.new ≡ appended_all recs.old (take_request cycle self.old (port_at ports.old.ports 0)).records }
-        ensures flag { result ≡ (take_request cycle self.old (port_at ports.old.ports 0)).flag }
+        ensures state { self.new ≡ (take_request cycle self.old (lone ports.old)).state }
+        ensures port { ports.new ≡ ports_after ports.old (take_request cycle self.old (lone ports.old)) }
+        ensures records { recs.new ≡ recs_after recs.old (take_request cycle self.old (lone ports.old)) }
+        ensures flag { result ≡ (take_request cycle self.old (lone ports.old)).flag }
     {
         let Some(request) = ports.in_head(0) else {
             return false;

@@ -15,7 +15,7 @@ use traffic_parts::{Agent, AgentText};
 
 /// The addresses from 0 to 511, at one port.
 fn ranges_to(alloc: Global, to: PortNo) -> Result<Ranges, OutOfMemory>
-    ensures { IfOk result (λ ranges. ranges ≡ (record { base = 0; size = 512; granule = 64; to = to ∷ [] }) ∷ []) }
+    ensures { IfOk result (λ ranges. ranges ≡ range_of 0 512 64 (to ∷ []) ∷ []) }
 {
     let mut targets = Vec::new(alloc);
     targets.push(to)?;

@@ -1,5 +1,5 @@
-ghost use Rattle.std.specs.Prelude.{◌≡◌, ◌+◌, ◌-◌, ◌<◌, ◌≤◌, ◌↔◌, [], ◌∷◌, ◌++◌, length, drop, slice_get, IfOk, IfErr, OnOk, OnErr, IsOk};
-ghost use Rattle.port_msg.specs.PortView.{port_view};
+ghost use Rattle.std.specs.Prelude.{◌≡◌, ◌-◌, ◌<◌, ◌≤◌, ◌↔◌, [], length, drop, slice_get, IfOk, IfErr, OnOk, OnErr, IsOk};
+ghost use Rattle.port_msg.specs.PortView.{port_view, with_sent, with_delivered, IsWithin};
 
 use crate::message::Msg;
 use circular_buffer::HeapCircularBuffer;
@@ -72,7 +72,7 @@ impl Port {
     /// How many messages the incoming list has room for.
     pub fn in_room(&self) -> u32
         ensures room { result ≡ self.now.cap - length self.now.incoming }
-        ensures within { (length self.now.incoming ≤ self.now.cap) × (self.now.cap ≤ MOST_MESSAGES) }
+        ensures within { IsWithin (length self.now.incoming) self.now.cap }
     {
         self.cap - (self.incoming.len() as u32)
     }
@@ -95,7 +95,7 @@ impl Port {
     /// How many messages the outgoing list has room for.
     pub fn out_room(&self) -> u32
         ensures room { result ≡ self.now.cap - length self.now.outgoing }
-        ensures within { (length self.now.outgoing ≤ self.now.cap) × (self.now.cap ≤ MOST_MESSAGES) }
+        ensures within { IsWithin (length self.now.outgoing) self.now.cap }
     {
         self.cap - (self.outgoing.len() as u32)
     }
@@ -103,7 +103,7 @@ impl Port {
     /// Appends a message to the outgoing list. It is handed back, with nothing changed, exactly where that is full.
     pub fn send(&mut self, msg: Msg) -> Result<(), Full>
         ensures room { IsOk result ↔ (length self.old.outgoing < self.old.cap) }
-        ensures sent { OnOk result (self.new ≡ record self.old { outgoing = self.old.outgoing ++ msg ∷ [] }) }
+        ensures sent { OnOk result (self.new ≡ with_sent self.old msg) }
 
         ensures handed_back { IfErr result (λ full. full.msg ≡ msg) }
         ensures unchanged { OnErr result (self.new ≡ self.old) }
@@ -117,7 +117,7 @@ impl Port {
     /// Appends a message to the incoming list. It is handed back, with nothing changed, exactly where that is full.
     pub fn deliver(&mut self, msg: Msg) -> Result<(), Full>
         ensures room { IsOk result ↔ (length self.old.incoming < self.old.cap) }
-        ensures delivered { OnOk result (self.new ≡ record self.old { incoming = self.old.incoming ++ msg ∷ [] }) }
+        ensures delivered { OnOk result (self.new ≡ with_delivered self.old msg) }
 
         ensures handed_back { IfErr result (λ full. full.msg ≡ msg) }
         ensures unchanged { OnErr result (self.new ≡ self.old) }

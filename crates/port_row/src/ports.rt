@@ -1,5 +1,5 @@
-ghost use Rattle.std.specs.Prelude.{◌≡◌, ℕ, ◌-◌, ◌^◌, ◌<◌, ◌≤◌, ◌↔◌, length, map, slice_get, slice_set, vec_len, IfErr, IfNone, IfOk, IfSome, IsOk, OnErr, OnOk};
-ghost use Rattle.port_row.specs.Row.{port_at, face_of, face_at, has_out, in_taken, out_taken, sent, delivered, NoOut, IsNextOut, NoChange, IsNextTouched, Settling};
+ghost use Rattle.std.specs.Prelude.{◌≡◌, ◌-◌, ◌^◌, ◌<◌, ◌↔◌, length, map, slice_get, vec_len, IfErr, IfNone, IfOk, IfSome, IsOk, OnErr, OnOk};
+ghost use Rattle.port_row.specs.Row.{port_at, face_of, face_at, has_out, in_taken, out_taken, sent, delivered, NoOut, IsNextOut, NoChange, IsNextTouched, Settling, with_port, incoming_room, outgoing_room, TakesIncoming, TakesOutgoing, IncomingIsWithin, OutgoingIsWithin, settled, settled_at, with_sent, with_delivered};
 
 use crate::face::{Face, face_of};
 use bit_set::BitSet;
@@ -69,7 +69,7 @@ impl Ports {
     /// These ports in order, all settled.
     pub fn open(alloc: Global, ports: Vec<Port>) -> Result<Ports, OutOfMemory>
         requires { vec_len ports < 2 ^ 32 }
-        ensures { IfOk result (λ row. row ≡ record { ports = ports.items; seen = map face_of ports.items }) }
+        ensures { IfOk result (λ row. row ≡ settled ports.items) }
     {
         let seen = faces_of(alloc, &ports)?;
         let outs = outs_of(alloc, &ports)?;
@@ -120,8 +120,8 @@ impl Ports {
     /// How many messages the incoming list of a port has room for.
     pub fn in_room(&self, k: usize) -> u32
         requires { k < length self.now.ports }
-        ensures room { result ≡ (port_at self.now.ports k).cap - length (port_at self.now.ports k).incoming }
-        ensures within { (length (port_at self.now.ports k).incoming ≤ (port_at self.now.ports k).cap) × ((port_at self.now.ports k).cap ≤ 64) }
+        ensures room { result ≡ incoming_room (port_at self.now.ports k) }
+        ensures within { IncomingIsWithin (port_at self.now.ports k) }
     {
         self.ports[k].in_room()
     }
@@ -149,8 +149,8 @@ impl Ports {
     /// How many messages the outgoing list of a port has room for.
     pub fn out_room(&self, k: usize) -> u32
         requires { k < length self.now.ports }
-        ensures room { result ≡ (port_at self.now.ports k).cap - length (port_at self.now.ports k).outgoing }
-        ensures within { (length (port_at self.now.ports k).outgoing ≤ (port_at self.now.ports k).cap) × ((port_at self.now.ports k).cap ≤ 64) }
+        ensures room { result ≡ outgoing_room (port_at self.now.ports k) }
+        ensures within { OutgoingIsWithin (port_at self.now.ports k) }
     {
         self.ports[k].out_room()
     }
@@ -158,8 +158,8 @@ impl Ports {
     /// Appends a message to the outgoing list of a port. It is handed back, with nothing changed, exactly where that is full.
     pub fn send(&mut self, k: usize, msg: Msg) -> Result<(), Full>
         requires { k < length self.old.ports }
-        ensures room { IsOk result ↔ (length (port_at self.old.ports k).outgoing < (port_at self.old.ports k).cap) }
-        ensures sent { OnOk result (self.new ≡ record self.old { ports = sent self.old.ports k msg }) }
+        ensures room { IsOk result ↔ TakesOutgoing (port_at self.old.ports k) }
+        ensures sent { OnOk result (self.new ≡ with_sent self.old k msg) }
 
         ensures handed_back { IfErr result (λ full. full.msg ≡ msg) }
         ensures unchanged { OnErr result (self.new ≡ self.old) }
@@ -173,8 +173,8 @@ impl Ports {
     /// Appends a message to the incoming list of a port. It is handed back, with nothing changed, exactly where that is full.
     pub fn deliver(&mut self, k: usize, msg: Msg) -> Result<(), Full>
         requires { k < length self.old.ports }
-        ensures room { IsOk result ↔ (length (port_at self.old.ports k).incoming < (port_at self.old.ports k).cap) }
-        ensures delivered { OnOk result (self.new ≡ record self.old { ports = delivered self.old.ports k msg }) }
+        ensures room { IsOk result ↔ TakesIncoming (port_at self.old.ports k) }
+        ensures delivered { OnOk result (self.new ≡ with_delivered self.old k msg) }
 
         ensures handed_back { IfErr result (λ full. full.msg ≡ msg) }
         ensures unchanged { OnErr result (self.new ≡ self.old) }
@@ -219,7 +219,7 @@ impl Ports {
     /// Notes what a port shows as what was seen of it.
     pub fn settle_at(&mut self, k: usize)
         requires { k < length self.old.ports }
-        ensures { self.new ≡ record self.old { seen = slice_set self.old.seen k (face_of (port_at self.old.ports k)) } }
+        ensures { self.new ≡ settled_at self.old k }
     {
         self.seen[k] = face_of(&self.ports[k]);
         self.touched.remove(k);
@@ -237,8 +237,8 @@ impl Ports {
     pub fn exchange(&mut self, k: usize, other: &mut Ports, j: usize)
         requires here { k < length self.old.ports }
         requires there { j < length other.old.ports }
-        ensures here { self.new ≡ record self.old { ports = slice_set self.old.ports k (port_at other.old.ports j) } }
-        ensures there { other.new ≡ record other.old { ports = slice_set other.old.ports j (port_at self.old.ports k) } }
+        ensures here { self.new ≡ with_port self.old k (port_at other.old.ports j) }
+        ensures there { other.new ≡ with_port other.old j (port_at self.old.ports k) }
     {
         std::mem::swap(&mut self.ports[k], &mut other.ports[j]);
         self.outs.put(k, self.ports[k].out_head().is_some());

@@ -1,5 +1,5 @@
 -- Ports by number, of which each stands in the row of its link.
-use Rattle.std.specs.Prelude.{◌≡◌, ℕ, ◌<◌, ◌≤◌, ◌||◌, Bool, true, false, List, [], length, map, slice_index, slice_index_or}
+use Rattle.std.specs.Prelude.{◌≡◌, ℕ, ◌<◌, ◌≤◌, ◌||◌, Bool, true, false, List, [], length, map, slice_index, slice_index_or, slice_set}
 use Rattle.std.specs.List.{range_with_len}
 use Rattle.port_msg.specs.PortView.{PortView, port_view}
 use Rattle.port_row.specs.declared.face.Face.{Face}
@@ -7,14 +7,60 @@ use Rattle.port_row.specs.Row.{PortsView, no_face, face_at, face_of}
 use Rattle.port_rows.specs.declared.side.SideOf.{SideOf}
 use Rattle.port_rows.specs.declared.side.SideOf.TheVariants.{Parts, Links}
 use Rattle.tick_law.specs.Face.{differ}
+use Rattle.tick_law.specs.Machine.{Machine, Outcome}
+use Rattle.model_laws.specs.Pass.{scatter}
 use Rattle.tick_law.specs.Wires.{Wires, own_of, owner_of, Wired}
-use Rattle.tick_law.specs.Pass.{place, port_at}
+use Rattle.tick_law.specs.Pass.{place, port_at, gather}
 
 -- all ports by number, what each showed when it was last settled, and how they are wired to the links
 pub record RowsView : Type 0 where
   pub ports : List PortView
   pub seen : List Face
   pub wires : Wires
+
+-- ports of which each has been seen as it is
+abbrev pub settled_rows : List PortView → Wires → RowsView
+settled_rows ports w = record { ports = ports; seen = map face_of ports; wires = w }
+
+-- the ports are others, and each has been seen as it is
+abbrev pub settled_with : RowsView → List PortView → RowsView
+settled_with v ports = record v { ports = ports; seen = map face_of ports }
+
+-- one port is another
+abbrev pub with_number : RowsView → ℕ → PortView → RowsView
+with_number v q p = record v { ports = slice_set v.ports q p }
+
+-- the ports of these numbers are others
+abbrev pub with_own : RowsView → List ℕ → List PortView → RowsView
+with_own v own ports = record v { ports = scatter v.ports own ports }
+
+-- one port has been seen as it is
+abbrev pub settled_at : RowsView → ℕ → RowsView
+settled_at v q = record v { seen = slice_set v.seen q (face_of (port_at v.ports q)) }
+
+-- the numbers of a link's ports
+abbrev pub link_own : RowsView → ℕ → List ℕ
+link_own v j = own_of v.wires j
+
+-- the step that an actor makes with the ports of these numbers, at a cycle
+abbrev pub step_with : {S : Type 0} → Machine S → S → RowsView → List ℕ → ℕ → Outcome S
+step_with m s v own n = m.step s (gather v.ports own) n
+
+-- the step that a link makes with its ports, at a cycle
+abbrev pub link_step : {S : Type 0} → Machine S → S → RowsView → ℕ → ℕ → Outcome S
+link_step m s v j n = step_with m s v (own_of v.wires j) n
+
+-- the ports after the step of an actor with those of these numbers
+abbrev pub after_step : {S : Type 0} → Machine S → S → RowsView → List ℕ → ℕ → RowsView
+after_step m s v own n = with_own v own (step_with m s v own n).ports
+
+-- the ports after the step of a link
+abbrev pub after_link : {S : Type 0} → Machine S → S → RowsView → ℕ → ℕ → RowsView
+after_link m s v j n = after_step m s v (own_of v.wires j) n
+
+-- a step leaves as many ports as there are numbers
+abbrev pub IsAsLong : {S : Type 0} → List ℕ → Outcome S → Type 0
+IsAsLong own outcome = length outcome.ports ≡ length own
 
 module _ {A : Type 0} where
   -- what the rows hold for this number, or else d
@@ -57,9 +103,17 @@ abbrev pub other_face : Bool → Face → Face → Bool
 other_face true a b = differ a.in_head b.in_head || differ a.out_room b.out_room
 other_face false a b = differ a.out_head b.out_head || differ a.in_room b.in_room
 
+-- a port shows a part (true) or a link (false) something else than was seen of it
+abbrev pub shows_other : Bool → RowsView → ℕ → Bool
+shows_other part v q = other_face part (face_at v.seen q) (face_of (port_at v.ports q))
+
 -- the ports of these numbers from place `from` on and below `below` show what was seen of them
 abbrev pub NoChangeAt : RowsView → List ℕ → ℕ → ℕ → Type 0
 NoChangeAt v own from below = (k : ℕ) → from ≤ k → k < below → face_at v.seen (slice_index own k) ≡ face_of (port_at v.ports (slice_index own k))
+
+-- all ports of these numbers from place `from` on show what was seen of them
+abbrev pub NoChangeFrom : RowsView → List ℕ → ℕ → Type 0
+NoChangeFrom v own from = NoChangeAt v own from (length own)
 
 -- those from place `from` on and below this one show what was seen of them
 pub record IsNextAt (v : RowsView) (own : List ℕ) (from k : ℕ) : Type 0 where

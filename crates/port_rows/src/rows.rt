@@ -1,11 +1,10 @@
-ghost use Rattle.std.specs.Prelude.{◌≡◌, ℕ, ◌+◌, ◌*◌, ◌<◌, ◌≤◌, ◌^◌, length, map, slice_set, vec_len, IfNone, IfOk, IfSome};
-ghost use Rattle.port_msg.specs.RecView.{appended_all};
+ghost use Rattle.std.specs.Prelude.{◌≡◌, ℕ, ◌+◌, ◌*◌, ◌<◌, ◌≤◌, ◌^◌, length, vec_len, IfNone, IfOk, IfSome};
+ghost use Rattle.tick_law.specs.Machine.{recorded};
 ghost use Rattle.tick_law.specs.Wires.{own_of, Has, AllApart};
 ghost use Rattle.tick_law.specs.Pass.{port_at, gather};
-ghost use Rattle.model_laws.specs.Pass.{scatter};
-ghost use Rattle.port_row.specs.Row.{face_of, face_at};
+ghost use Rattle.port_row.specs.Row.{with_ports, with_port};
 ghost use Rattle.port_rows.specs.Opening.{IsSide};
-ghost use Rattle.port_rows.specs.Rows.{other_face, are_parts, NoChangeAt, IsNextAt};
+ghost use Rattle.port_rows.specs.Rows.{other_face, are_parts, IsNextAt, settled_rows, settled_with, with_number, with_own, settled_at, link_own, step_with, link_step, after_step, after_link, IsAsLong, shows_other, NoChangeFrom};
 
 use crate::opening::{hollow_rows, places_of};
 use crate::side::SideOf;
@@ -50,7 +49,7 @@ impl PortRows {
     pub fn open(alloc: Global, ports: Vec<Port>, wiring: Wiring) -> Result<PortRows, OutOfMemory>
         requires few { vec_len ports < 2 ^ 32 }
         requires side { IsSide wiring (vec_len ports) }
-        ensures { IfOk result (λ rows. rows ≡ record { ports = ports.items; seen = map face_of ports.items; wires = wiring }) }
+        ensures { IfOk result (λ rows. rows ≡ settled_rows ports.items wiring) }
     {
         let places = places_of(alloc, &wiring, ports.len())?;
         let rows = hollow_rows(alloc, &wiring)?;
@@ -68,7 +67,7 @@ impl PortRows {
     fn fill(&mut self, hand: &mut Ports)
         requires same { length hand.old.ports ≡ length self.old.ports }
         requires seen { length self.old.seen ≡ length self.old.ports }
-        ensures { self.new ≡ record self.old { ports = hand.old.ports; seen = map face_of hand.old.ports } }
+        ensures { self.new ≡ settled_with self.old hand.old.ports }
     {
         for q in 0..hand.len() {
             self.exchange(q as u32, hand, q);
@@ -80,8 +79,8 @@ impl PortRows {
     fn exchange(&mut self, port: u32, hand: &mut Ports, k: usize)
         requires here { port < length self.old.ports }
         requires there { k < length hand.old.ports }
-        ensures here { self.new ≡ record self.old { ports = slice_set self.old.ports port (port_at hand.old.ports k) } }
-        ensures there { hand.new ≡ record hand.old { ports = slice_set hand.old.ports k (port_at self.old.ports port) } }
+        ensures here { self.new ≡ with_number self.old port (port_at hand.old.ports k) }
+        ensures there { hand.new ≡ with_port hand.old k (port_at self.old.ports port) }
     {
         let link = self.wiring.owner(port) as usize;
         let place = self.places[port as usize] as usize;
@@ -93,8 +92,8 @@ impl PortRows {
         requires within { (q : ℕ) → Has own.now q → q < length self.old.ports }
         requires same { length own.now ≡ length hand.old.ports }
         requires apart { AllApart own.now }
-        ensures here { self.new ≡ record self.old { ports = scatter self.old.ports own.now hand.old.ports } }
-        ensures there { hand.new ≡ record hand.old { ports = gather self.old.ports own.now } }
+        ensures here { self.new ≡ with_own self.old own.now hand.old.ports }
+        ensures there { hand.new ≡ with_ports hand.old (gather self.old.ports own.now) }
     {
         let mut left = own.len();
         while left > 0 {
@@ -115,13 +114,13 @@ impl PortRows {
         requires here { no < length self.old.wires.own }
         requires own { length (own_of self.old.wires no) ≡ N.machine.own link.old }
         requires time { cycle * N.machine.period link.old ≤ LATEST_TICK }
-        requires room { length recs.old.items + 64 * length (own_of self.old.wires no) ≤ recs.old.room }
+        requires room { length recs.old.items + 64 * length (link_own self.old no) ≤ recs.old.room }
 
-        ensures state { link.new ≡ (N.machine.step link.old (gather self.old.ports (own_of self.old.wires no)) cycle).state }
-        ensures ports { self.new ≡ record self.old { ports = scatter self.old.ports (own_of self.old.wires no) (N.machine.step link.old (gather self.old.ports (own_of self.old.wires no)) cycle).ports } }
-        ensures long { length (N.machine.step link.old (gather self.old.ports (own_of self.old.wires no)) cycle).ports ≡ length (own_of self.old.wires no) }
-        ensures records { recs.new ≡ appended_all recs.old (N.machine.step link.old (gather self.old.ports (own_of self.old.wires no)) cycle).records }
-        ensures flag { result ≡ (N.machine.step link.old (gather self.old.ports (own_of self.old.wires no)) cycle).flag }
+        ensures state { link.new ≡ (link_step N.machine link.old self.old no cycle).state }
+        ensures ports { self.new ≡ after_link N.machine link.old self.old no cycle }
+        ensures long { IsAsLong (link_own self.old no) (link_step N.machine link.old self.old no cycle) }
+        ensures records { recs.new ≡ recorded recs.old (link_step N.machine link.old self.old no cycle) }
+        ensures flag { result ≡ (link_step N.machine link.old self.old no cycle).flag }
         ensures steps { steps.new ≡ steps.old + 1 }
     {
         link.tick(&mut self.rows[no as usize], cycle, recs, steps)
@@ -144,12 +143,12 @@ impl PortRows {
         requires time { cycle * P.machine.period part.old ≤ LATEST_TICK }
         requires room { length recs.old.items + 64 * length own.now ≤ recs.old.room }
 
-        ensures state { part.new ≡ (P.machine.step part.old (gather self.old.ports own.now) cycle).state }
-        ensures ports { self.new ≡ record self.old { ports = scatter self.old.ports own.now (P.machine.step part.old (gather self.old.ports own.now) cycle).ports } }
+        ensures state { part.new ≡ (step_with P.machine part.old self.old own.now cycle).state }
+        ensures ports { self.new ≡ after_step P.machine part.old self.old own.now cycle }
         ensures hand { hand.new ≡ hand.old }
-        ensures long { length (P.machine.step part.old (gather self.old.ports own.now) cycle).ports ≡ length own.now }
-        ensures records { recs.new ≡ appended_all recs.old (P.machine.step part.old (gather self.old.ports own.now) cycle).records }
-        ensures flag { result ≡ (P.machine.step part.old (gather self.old.ports own.now) cycle).flag }
+        ensures long { IsAsLong own.now (step_with P.machine part.old self.old own.now cycle) }
+        ensures records { recs.new ≡ recorded recs.old (step_with P.machine part.old self.old own.now cycle) }
+        ensures flag { result ≡ (step_with P.machine part.old self.old own.now cycle).flag }
         ensures steps { steps.new ≡ steps.old + 1 }
     {
         self.lend(own, hand);
@@ -187,7 +186,7 @@ impl PortRows {
     /// The least place of a link's row, from `from` on, that was touched. Those that are passed over show what was seen of them.
     pub fn next_touched(&self, link: u32, from: usize) -> Option<usize>
         requires { link < length self.now.wires.own }
-        ensures none { IfNone result (NoChangeAt self.now (own_of self.now.wires link) from (length (own_of self.now.wires link))) }
+        ensures none { IfNone result (NoChangeFrom self.now (own_of self.now.wires link) from) }
         ensures least { IfSome result (λ k. IsNextAt self.now (own_of self.now.wires link) from k) }
     {
         let row = &self.rows[link as usize];
@@ -197,7 +196,7 @@ impl PortRows {
     /// Whether a port shows its owner of this side something else than was seen of it.
     pub fn has_changed(&self, port: u32, side: SideOf) -> bool
         requires { port < length self.now.ports }
-        ensures { result ≡ other_face (are_parts side) (face_at self.now.seen port) (face_of (port_at self.now.ports port)) }
+        ensures { result ≡ shows_other (are_parts side) self.now port }
     {
         let link = self.wiring.owner(port) as usize;
         let place = self.places[port as usize] as usize;
@@ -208,7 +207,7 @@ impl PortRows {
     /// Notes what a port shows as what was seen of it.
     pub fn settle_at(&mut self, port: u32)
         requires { port < length self.old.ports }
-        ensures seen { self.new ≡ record self.old { seen = slice_set self.old.seen port (face_of (port_at self.old.ports port)) } }
+        ensures seen { self.new ≡ settled_at self.old port }
         ensures within { port < length self.old.seen }
     {
         let link = self.wiring.owner(port) as usize;

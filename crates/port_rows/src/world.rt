@@ -29,7 +29,7 @@ impl<P: Drop, N: Drop> World<P, N> {
     ) -> Result<World<P, N>, OutOfMemory>
         requires few { vec_len ports < 2 ^ 32 }
         requires side { IsSide wiring (vec_len ports) }
-        ensures { IfOk result (λ world. IsFreshWorld parts.items links.items ports.items wiring world) }
+        ensures { IfOk result (λ w. IsFreshWorld parts.items links.items ports.items wiring w) }
     {
         let rows = PortRows::open(alloc, ports, wiring)?;
         Ok(World { parts, links, rows })

@@ -110,8 +110,12 @@ drawn s = value_after s.value
 unfoldable pub target : AgentState → Option PortNo
 target s = target_at s.ranges (address_of s.base s.span (value_after s.value))
 
+-- a request was sent at a cycle: it counts, its value was drawn, and the next one comes the gap later
+abbrev pub request_noted : AgentState → ℕ → ℕ → AgentState
+request_noted s n value = record s { issued = s.issued + 1; next = n + s.gap; value = value }
+
 abbrev pub request_sent : AgentState → PortView → ℕ → PortNo → Act AgentState
-request_sent s p n dst = record { state = record s { issued = s.issued + 1; next = n + s.gap; value = drawn s }; port = record p { outgoing = p.outgoing ++ request s (drawn s) dst ∷ [] }; records = Send (request s (drawn s) dst) ∷ []; flag = true }
+request_sent s p n dst = record { state = request_noted s n (drawn s); port = record p { outgoing = p.outgoing ++ request s (drawn s) dst ∷ [] }; records = Send (request s (drawn s) dst) ∷ []; flag = true }
 
 abbrev pub request_where : AgentState → PortView → ℕ → Bool → Option PortNo → Act AgentState
 request_where s p n false dst = nothing s p

@@ -1,9 +1,8 @@
-ghost use Rattle.std.specs.Prelude.{◌≡◌, ◌+◌, ◌*◌, ◌^◌, ◌<◌, ◌≤◌, ◌++◌, length, replicate, slice_set, IfOk, All, AllPairs};
+ghost use Rattle.std.specs.Prelude.{◌≡◌, ◌+◌, ◌*◌, ◌^◌, ◌<◌, ◌≤◌, ◌++◌, length, replicate, IfOk, All, AllPairs};
 ghost use Rattle.std.specs.Int.{w32, to_le_bytes};
-ghost use Rattle.tick_law.specs.Pass.{port_at};
-ghost use Rattle.port_msg.specs.RecView.{appended_all};
+ghost use Rattle.tick_law.specs.OnePort.{lone, ports_after, recs_after};
 ghost use Rattle.addr_map.specs.Range.{IsRange, Apart};
-ghost use Rattle.traffic_parts.specs.Agent.{IsAgent, agent_opening, is_answer, total_after, take_answer, write_request, read_request, request, is_open, is_ready, drawn, target, send_request, agent};
+ghost use Rattle.traffic_parts.specs.Agent.{IsAgent, agent_opening, is_answer, total_after, take_answer, write_request, read_request, request, is_open, is_ready, drawn, target, send_request, agent, request_noted};
 
 use crate::draw::{address_of, value_after, writes};
 use addr_map::{AddrMap, Ranges};
@@ -271,10 +270,10 @@ impl Agent {
         requires port { 0 < length ports.old.ports }
         requires room { length recs.old.items < recs.old.room }
 
-        ensures state { self.new ≡ (take_answer self.old (port_at ports.old.ports 0)).state }
-        ensures port { ports.new ≡ record ports.old { ports = slice_set ports.old.ports 0 (take_answer self.old (port_at ports.old.ports 0)).port } }
-        ensures records { recs.new ≡ appended_all recs.old (take_answer self.old (port_at ports.old.ports 0)).records }
-        ensures flag { result ≡ (take_answer self.old (port_at ports.old.ports 0)).flag }
+        ensures state { self.new ≡ (take_answer self.old (lone ports.old)).state }
+        ensures port { ports.new ≡ ports_after ports.old (take_answer self.old (lone ports.old)) }
+        ensures records { recs.new ≡ recs_after recs.old (take_answer self.old (lone ports.old)) }
+        ensures flag { result ≡ (take_answer self.old (lone ports.old)).flag }
     {
         let Some(msg) = ports.in_head(0) else {
             return false;
@@ -294,7 +293,7 @@ impl Agent {
         requires few { self.old.issued < self.old.count }
         requires time { cycle * self.old.period ≤ LATEST_TICK }
 
-        ensures { self.new ≡ record self.old { issued = self.old.issued + 1; next = cycle + self.old.gap; value = value } }
+        ensures { self.new ≡ request_noted self.old cycle value }
     {
         self.issued += 1;
         self.next = cycle + u64::from(self.gap);
@@ -308,10 +307,10 @@ impl Agent {
         requires room { length recs.old.items < recs.old.room }
         requires time { cycle * self.old.period ≤ LATEST_TICK }
 
-        ensures state { self.new ≡ (send_request cycle self.old (port_at ports.old.ports 0)).state }
-        ensures port { ports.new ≡ record ports.old { ports = slice_set ports.old.ports 0 (send_request cycle self.old (port_at ports.old.ports 0)).port } }
-        ensures records { recs.new ≡ appended_all recs.old (send_request cycle self.old (port_at ports.old.ports 0)).records }
-        ensures flag { result ≡ (send_request cycle self.old (port_at ports.old.ports 0)).flag }
+        ensures state { self.new ≡ (send_request cycle self.old (lone ports.old)).state }
+        ensures port { ports.new ≡ ports_after ports.old (send_request cycle self.old (lone ports.old)) }
+        ensures records { recs.new ≡ recs_after recs.old (send_request cycle self.old (lone ports.old)) }
+        ensures flag { result ≡ (send_request cycle self.old (lone ports.old)).flag }
     {
         if !self.is_ready(cycle) {
             return false;

@@ -1,7 +1,6 @@
-ghost use Rattle.std.specs.Prelude.{◌≡◌, ◌<◌, ◌≤◌, ◌-◌, length, is_none, slice_set};
+ghost use Rattle.std.specs.Prelude.{◌≡◌, ◌<◌, ◌≤◌, ◌-◌, length, is_none};
 ghost use Rattle.std.specs.Option.{ForSome};
-ghost use Rattle.tick_law.specs.Pass.{port_at};
-ghost use Rattle.port_msg.specs.RecView.{appended_all};
+ghost use Rattle.tick_law.specs.OnePort.{lone, ports_after, recs_after};
 ghost use Rattle.traffic_parts.specs.Relay.{RelayState, IsRelay, token, send_held, take_token, relay, opening};
 
 use port_msg::{DATA_BYTES, Msg, MsgId, MsgKind, RecList, What};
@@ -113,10 +112,10 @@ impl Relay {
         requires port { 0 < length ports.old.ports }
         requires room { length recs.old.items < recs.old.room }
 
-        ensures state { self.new ≡ (send_held self.old (port_at ports.old.ports 0)).state }
-        ensures port { ports.new ≡ record ports.old { ports = slice_set ports.old.ports 0 (send_held self.old (port_at ports.old.ports 0)).port } }
-        ensures records { recs.new ≡ appended_all recs.old (send_held self.old (port_at ports.old.ports 0)).records }
-        ensures flag { result ≡ (send_held self.old (port_at ports.old.ports 0)).flag }
+        ensures state { self.new ≡ (send_held self.old (lone ports.old)).state }
+        ensures port { ports.new ≡ ports_after ports.old (send_held self.old (lone ports.old)) }
+        ensures records { recs.new ≡ recs_after recs.old (send_held self.old (lone ports.old)) }
+        ensures flag { result ≡ (send_held self.old (lone ports.old)).flag }
     {
         let Some(hops) = self.holds else {
             return false;
@@ -136,10 +135,10 @@ impl Relay {
         requires port { 0 < length ports.old.ports }
         requires room { length recs.old.items < recs.old.room }
 
-        ensures state { self.new ≡ (take_token self.old (port_at ports.old.ports 0)).state }
-        ensures port { ports.new ≡ record ports.old { ports = slice_set ports.old.ports 0 (take_token self.old (port_at ports.old.ports 0)).port } }
-        ensures records { recs.new ≡ appended_all recs.old (take_token self.old (port_at ports.old.ports 0)).records }
-        ensures flag { result ≡ (take_token self.old (port_at ports.old.ports 0)).flag }
+        ensures state { self.new ≡ (take_token self.old (lone ports.old)).state }
+        ensures port { ports.new ≡ ports_after ports.old (take_token self.old (lone ports.old)) }
+        ensures records { recs.new ≡ recs_after recs.old (take_token self.old (lone ports.old)) }
+        ensures flag { result ≡ (take_token self.old (lone ports.old)).flag }
     {
         if self.holds.is_some() {
             return false;
