@@ -1,7 +1,7 @@
 -- A row is what its owner's numbers gather, and a change of a row scatters.
 use Rattle.std.proofs.Common.{◌≡◌, ◌≢◌, ℕ, ◌<◌, ◌≤◌, ◌⊎◌, inl, inr, List, [], ◌∷◌, ◌++◌, length, take, drop, append_assoc, drop-cons, get_or, set, map, sym, ◌∙◌, ap, subst, arith, refl, zero, suc}
 use Rattle.std.specs.Prelude.{Option, Some, None, IfNone, IfSome}
-use Rattle.std.proofs.lemmas.List.{get_or-set_same, get_or-set_other, length-set, length-map, same_lists, map-set, set-get_or, get_or_default, set_past, get_or_at, set_at, length-take-le}
+use Rattle.std.proofs.lemmas.List.{get_or_read, get_or-set_same, get_or-set_other, length-set, length-map, same_lists, map-set, set-get_or, get_or_default, set_past, get_or_at, set_at, length-take-le}
 use Rattle.std.proofs.lemmas.List.FromFn.{length-map-range_with_len, get_or-map-range_with_len}
 use Rattle.std.proofs.lemmas.Bool.{cases_eq, cases_lt, eq-eqb, ne_eqb}
 use Rattle.tick_law.specs.Wires.{Wires, own_of, owner_of, Has, AllApart, Wired}
@@ -357,3 +357,89 @@ next_at (Some k) rows w places j from row v is e f next =
       within = b;
       before = no_change rows w places j from k is (omega (arith, b)) (subst (λ (r : PortsView). NoChange r from k) e next.before);
     })
+
+-- where the port of a number stands: its link, its place in that link's row, and this row
+pub record IsSeat (rows : List PortsView) (w : Wires) (v : RowsView) (q j k : ℕ) (row : PortsView) : Type 0 where
+  pub number : q < length w.owner
+  pub owner : j ≡ owner_of w q
+  pub place_is : k ≡ place q (own_of w (owner_of w q))
+  pub row_there : j < length rows
+  pub row_is : row ≡ row_of rows j
+  pub within : k < length row.ports
+  pub port : port_at row.ports k ≡ port_at v.ports q
+  pub seen : face_at row.seen k ≡ face_at v.seen q
+
+pub seat_row : {rows : List PortsView} {w : Wires} {places : List ℕ} {v : RowsView} {q j : ℕ} → IsSeated rows w places → rows_view rows w ≡ v → q < length v.ports → j ≡ owner_of w q → j < length rows
+seat_row {rows} {w} {places} {v} {q} {j} is e b o =
+    let n : q < length w.owner = number_below rows w v q e b in
+    link_below rows w places j is (omega (arith, is.owners q n, o))
+
+pub seat : {rows : List PortsView} {w : Wires} {places table : List ℕ} {v : RowsView} {q j k : ℕ} {row : PortsView} → IsSeated rows w places → rows_view rows w ≡ v → q < length v.ports → j ≡ owner_of w q → table ≡ places → k ≡ get_or table q 0 → row ≡ get_or rows j row → IsSeat rows w v q j k row
+seat {rows} {w} {places} {table} {v} {q} {j} {k} {row} is e b o t p r =
+    let n : q < length w.owner = number_below rows w v q e b in
+    let at : k ≡ place q (own_of w (owner_of w q)) = p ∙ ap (λ (l : List ℕ). get_or l q 0) t ∙ is.places_are q n in
+    let here : j < length rows = seat_row is e b o in
+    let was : row ≡ row_of rows j = get_or_read rows j row here r no_row in
+    record {
+      number = n;
+      owner = o;
+      place_is = at;
+      row_there = here;
+      row_is = was;
+      within = omega (arith, place_within rows w places q j k is n o at, ap (λ (x : PortsView). length x.ports) was);
+      port = ap (λ (x : PortsView). port_at x.ports k) was ∙ port_there rows w q j k n o at ∙ ap (λ (x : RowsView). port_at x.ports q) e;
+      seen = ap (λ (x : PortsView). face_at x.seen k) was ∙ seen_there rows w q j k n o at ∙ ap (λ (x : RowsView). face_at x.seen q) e;
+    }
+
+-- the rows after one row is another, and what they are by number
+pub record IsChanged (rows : List PortsView) (w : Wires) (places : List ℕ) (j : ℕ) (new : PortsView) (v : RowsView) : Type 0 where
+  pub seated : IsSeated (set rows j new) w places
+  pub view : rows_view (set rows j new) w ≡ v
+
+-- another port stands at a seat
+pub port_put : {rows : List PortsView} {w : Wires} {places : List ℕ} {v : RowsView} {q j k : ℕ} {row : PortsView} → IsSeated rows w places → rows_view rows w ≡ v → IsSeat rows w v q j k row → (p : PortView) (new : PortsView) → new ≡ record row { ports = set row.ports k p } → IsChanged rows w places j new (record v { ports = set v.ports q p })
+port_put {rows} {w} {places} {v} {q} {j} {k} {row} is e s p new f =
+    record {
+      seated =
+          seated_set rows w places j new is
+          (ap (λ (r : PortsView). length r.ports) f ∙ length-set row.ports k p ∙ ap (λ (r : PortsView). length r.ports) s.row_is ∙ row_long rows w places j is)
+          (ap (λ (r : PortsView). r.seen) f ∙ ap (λ (r : PortsView). r.seen) s.row_is);
+      view =
+          port_set rows w places q j k p new is s.number s.owner s.place_is
+          (f ∙ ap (λ (r : PortsView). let x : PortsView = record r { ports = set r.ports k p } in x) s.row_is)
+          ∙ ap (λ (x : RowsView). let y : RowsView = record x { ports = set x.ports q p } in y) e;
+    }
+
+-- the port at a seat has been seen as it is
+pub seat_settled : {rows : List PortsView} {w : Wires} {places : List ℕ} {v : RowsView} {q j k : ℕ} {row : PortsView} → IsSeated rows w places → rows_view rows w ≡ v → IsSeat rows w v q j k row → (new : PortsView) → new ≡ record row { seen = set row.seen k (face_of (port_at row.ports k)) } → IsChanged rows w places j new (record v { seen = set v.seen q (face_of (port_at v.ports q)) })
+seat_settled {rows} {w} {places} {v} {q} {j} {k} {row} is e s new f =
+    let x = face_of (port_at row.ports k) in
+    let g : new ≡ record (row_of rows j) { seen = set (row_of rows j).seen k x } = f ∙ ap (λ (r : PortsView). let y : PortsView = record r { seen = set r.seen k x } in y) s.row_is in
+    record {
+      seated = seated_settled rows w places j k x new is g;
+      view =
+          seen_set rows w places q j k x new is s.number s.owner s.place_is g
+          ∙ ap (λ (r : RowsView). let y : RowsView = record r { seen = set r.seen q x } in y) e
+          ∙ ap (λ p. let y : RowsView = record v { seen = set v.seen q (face_of p) } in y) s.port;
+    }
+
+-- the row of a link, by the link's number
+pub record IsRowOf (rows : List PortsView) (w : Wires) (v : RowsView) (j : ℕ) (row : PortsView) : Type 0 where
+  pub here : j < length rows
+  pub row_is : row ≡ row_of rows j
+  pub long : length row.ports ≡ length (own_of w j)
+  pub gathers : row.ports ≡ gather v.ports (own_of v.wires j)
+
+pub link_row : {rows : List PortsView} {w : Wires} {places : List ℕ} {v : RowsView} {j : ℕ} → IsSeated rows w places → rows_view rows w ≡ v → j < length v.wires.own → j < length rows
+link_row {rows} {w} {places} {v} {j} is e b = link_below rows w places j is (omega (arith, b, ap (λ (x : RowsView). length x.wires.own) e))
+
+pub row_found : {rows : List PortsView} {w : Wires} {places : List ℕ} {v : RowsView} {j : ℕ} {row : PortsView} → IsSeated rows w places → rows_view rows w ≡ v → j < length v.wires.own → row ≡ get_or rows j row → IsRowOf rows w v j row
+row_found {rows} {w} {places} {v} {j} {row} is e b r =
+    let here : j < length rows = link_row is e b in
+    let was : row ≡ row_of rows j = get_or_read rows j row here r no_row in
+    record {
+      here = here;
+      row_is = was;
+      long = ap (λ (x : PortsView). length x.ports) was ∙ row_long rows w places j is;
+      gathers = ap (λ (x : PortsView). x.ports) was ∙ row_gathers rows w places j is ∙ ap (λ (x : RowsView). gather x.ports (own_of x.wires j)) e;
+    }

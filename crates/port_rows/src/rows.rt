@@ -1,6 +1,6 @@
-ghost use Rattle.std.specs.Prelude.{◌≡◌, ℕ, ◌+◌, ◌*◌, ◌<◌, ◌≤◌, ◌^◌, length, vec_len, IfNone, IfOk, IfSome};
+ghost use Rattle.std.specs.Prelude.{◌≡◌, ℕ, ◌+◌, ◌*◌, ◌<◌, ◌≤◌, ◌^◌, length, vec_len, IfNone, IfOk, IfSome, slice_index};
 ghost use Rattle.tick_law.specs.Machine.{recorded};
-ghost use Rattle.tick_law.specs.Wires.{own_of, Has, AllApart};
+ghost use Rattle.tick_law.specs.Wires.{own_of, owner_of, Has, AllApart};
 ghost use Rattle.tick_law.specs.Pass.{port_at, gather};
 ghost use Rattle.port_row.specs.Row.{with_ports, with_port};
 ghost use Rattle.port_rows.specs.Opening.{IsSide};
@@ -32,6 +32,26 @@ impl Model for PortRows {
     ghost view = { λ r. rows_view r.rows.items r.wiring };
 
     ghost invariant = { λ r. IsSeated r.rows.items r.wiring r.places.items };
+}
+
+/// Where a port stands: its link, and its place in the row of that link.
+#[derive(Clone, Copy)]
+struct Seat {
+    link: usize,
+    place: usize,
+}
+
+/// Where the port of this number stands.
+fn seat_of(wiring: &Wiring, places: &[u32], port: u32) -> Seat
+    requires known { port < length wiring.now.owner }
+    requires tabled { length places.now ≡ length wiring.now.owner }
+    ensures link { result.link ≡ owner_of wiring.now port }
+    ensures place { result.place ≡ slice_index places.now port }
+{
+    Seat {
+        link: wiring.owner(port) as usize,
+        place: places[port as usize] as usize,
+    }
 }
 
 /// Whether two faces are not the same to an owner of this side.
@@ -82,9 +102,8 @@ impl PortRows {
         ensures here { self.new ≡ with_number self.old port (port_at hand.old.ports k) }
         ensures there { hand.new ≡ with_port hand.old k (port_at self.old.ports port) }
     {
-        let link = self.wiring.owner(port) as usize;
-        let place = self.places[port as usize] as usize;
-        self.rows[link].exchange(place, hand, k);
+        let seat = seat_of(&self.wiring, &self.places, port);
+        self.rows[seat.link].exchange(seat.place, hand, k);
     }
 
     /// Exchanges these ports for those of another row, each for the one at its place.
@@ -169,10 +188,9 @@ impl PortRows {
         requires { port < length self.now.ports }
         ensures { result.now ≡ port_at self.now.ports port }
     {
-        let link = self.wiring.owner(port) as usize;
-        let place = self.places[port as usize] as usize;
-        let row = &self.rows[link];
-        row.port(place)
+        let seat = seat_of(&self.wiring, &self.places, port);
+        let row = &self.rows[seat.link];
+        row.port(seat.place)
     }
 
     /// The numbers of a link's ports, in order.
@@ -198,10 +216,9 @@ impl PortRows {
         requires { port < length self.now.ports }
         ensures { result ≡ shows_other (are_parts side) self.now port }
     {
-        let link = self.wiring.owner(port) as usize;
-        let place = self.places[port as usize] as usize;
-        let row = &self.rows[link];
-        is_other_face(side, row.seen(place), row.face(place))
+        let seat = seat_of(&self.wiring, &self.places, port);
+        let row = &self.rows[seat.link];
+        is_other_face(side, row.seen(seat.place), row.face(seat.place))
     }
 
     /// Notes what a port shows as what was seen of it.
@@ -210,8 +227,7 @@ impl PortRows {
         ensures seen { self.new ≡ settled_at self.old port }
         ensures within { port < length self.old.seen }
     {
-        let link = self.wiring.owner(port) as usize;
-        let place = self.places[port as usize] as usize;
-        self.rows[link].settle_at(place);
+        let seat = seat_of(&self.wiring, &self.places, port);
+        self.rows[seat.link].settle_at(seat.place);
     }
 }
