@@ -1,10 +1,10 @@
 -- A memory: what its state is, and what it does in a step.
 use Rattle.std.specs.Prelude.{ℕ, ◌+◌, ◌-◌, ◌*◌, ◌^◌, ◌<◌, ◌≤◌, ◌&&◌, ◌++◌, ◌==◌, List, [], ◌∷◌, length, take, drop, min, Option, Some, None, Bool, true, false, IsTrue, nat_lt, nat_le, cond, slice_get, replicate, All}
 use Rattle.sim_base.specs.declared.time.TheConstants.{LATEST_TICK, LONGEST_PERIOD}
+use Rattle.port_msg.specs.Kinds.{is_request, is_write}
 use Rattle.port_msg.specs.PortView.{PortView}
 use Rattle.port_msg.specs.declared.message.Msg.{Msg}
-use Rattle.port_msg.specs.declared.message.MsgKind.{MsgKind}
-use Rattle.port_msg.specs.declared.message.MsgKind.TheVariants.{Token, Read, Write, ReadRsp, WriteRsp, Flush, FlushRsp}
+use Rattle.port_msg.specs.declared.message.MsgKind.TheVariants.{ReadRsp, WriteRsp}
 use Rattle.port_msg.specs.declared.records.What.TheVariants.{Send, Take}
 use Rattle.sim_base.specs.declared.numbers.PortNo.{PortNo}
 use Rattle.tick_law.specs.Machine.{Machine}
@@ -30,15 +30,6 @@ opening text = record { top = text.top; period = text.period; base = text.base; 
 -- the byte at an address, or none outside the memory
 abbrev pub byte_at : MemoryState → ℕ → Option ℕ
 byte_at s addr = cond (nat_le s.base addr) (slice_get s.bytes (addr - s.base)) None
-
-abbrev pub is_request : MsgKind → Bool
-is_request Read = true
-is_request Write = true
-is_request ReadRsp = false
-is_request WriteRsp = false
-is_request Flush = false
-is_request FlushRsp = false
-is_request Token = false
 
 -- a message is about 1 to 64 bytes that all lie in a memory of this base and size
 abbrev pub lies_within : ℕ → ℕ → Msg → Bool
@@ -86,15 +77,6 @@ read_answer s m = record { id = m.id; src = s.top; dst = m.src; kind = ReadRsp; 
 -- the answer to a write has none
 unfoldable pub write_answer : MemoryState → Msg → Msg
 write_answer s m = record { id = m.id; src = s.top; dst = m.src; kind = WriteRsp; addr = m.addr; len = 0; bytes = replicate 64 0 }
-
-abbrev pub is_write : MsgKind → Bool
-is_write Write = true
-is_write Read = false
-is_write ReadRsp = false
-is_write WriteRsp = false
-is_write Flush = false
-is_write FlushRsp = false
-is_write Token = false
 
 -- the answer to a request: it has the request's id and address, and goes from the memory's port to where the request came from
 abbrev pub answer : MemoryState → Msg → Msg

@@ -4,8 +4,10 @@ use Rattle.std.proofs.Common.{sym, ◌∙◌, ap, subst, arith}
 use Rattle.std.proofs.lemmas.Grind.{common_steps}
 use Rattle.std.proofs.lemmas.List.{drop-replicate}
 use Rattle.std.proofs.lemmas.List.Elements.{All-drop, All-push, All-head}
+use Rattle.std.proofs.lemmas.Bool.{and_parts, and_left}
 use Rattle.std.proofs.lemmas.Bool.Decides.{nat_tests}
 use Rattle.sim_base.specs.declared.time.TheConstants.{LATEST_TICK, LONGEST_PERIOD}
+use Rattle.port_msg.specs.Kinds.{is_write}
 use Rattle.port_msg.specs.PortView.{PortView}
 use Rattle.port_msg.specs.declared.message.Msg.{Msg}
 use Rattle.tick_law.specs.Frame.{AllPorts, Framed}
@@ -13,33 +15,14 @@ use Rattle.tick_law.specs.Face.{SameFaces}
 use Rattle.tick_law.specs.Quiet.{Quiet, IsBelow}
 use Rattle.tick_law.specs.FrameLaws.{frames_same}
 use Rattle.tick_law.specs.OnePort.{Act, nothing, then_rule, head_of, has_room}
-use Rattle.tick_law.specs.OnePortLaws.{Kept, kept_nothing, kept_where, kept_then, where_failed, where_false, then_nothing, then_flag, or_left, taken_framed, taken_ok, sent_framed, sent_ok}
+use Rattle.tick_law.specs.OnePortLaws.{Stays, stays_same, stays_trans, Kept, kept_nothing, kept_where, kept_then, where_failed, where_false, then_nothing, then_flag, or_left, taken_framed, taken_ok, sent_framed, sent_ok}
 use Rattle.tick_law.specs.TimerLaws.{above_later, above_steady, not_yet, set_early, time_early}
 use Rattle.mem_ctrl.specs.declared.waiting.Waiting.{Waiting}
-use Rattle.mem_ctrl.specs.Memory.{MemoryState, IsWaiting, IsMemory, filled, accepts, place_of, put_over, answer, stored, served, serve_of, serve, waiting_from, taken, has_place, take_of, take_request, deadline_of, memory, is_write}
+use Rattle.mem_ctrl.specs.Memory.{MemoryState, IsWaiting, IsMemory, filled, accepts, place_of, put_over, answer, stored, served, serve_of, serve, waiting_from, taken, has_place, take_of, take_request, deadline_of, memory}
 
 -- what stays the same in a step at a cycle, and that a state that a memory can be in leads to one
-record Stays (n : ℕ) (s t : MemoryState) : Type 0 where
-  period : t.period ≡ s.period
-  valid : IsMemory s → n * s.period ≤ LATEST_TICK → IsMemory t
-
-stays_same : (n : ℕ) (s : MemoryState) → Stays n s s
-stays_same n s = record { period = refl; valid = λ v e. v }
-
-stays_trans : (n : ℕ) (x y z : MemoryState) → Stays n x y → Stays n y z → Stays n x z
-stays_trans n x y z a b = record { period = b.period ∙ a.period; valid = λ v e. b.valid (a.valid v e) (let p : y.period ≡ x.period = a.period in rw p e) }
-
-and_left : (a b : Bool) → (a && b) ≡ true → a ≡ true
-and_left true b e = refl
-and_left false b e = absurd (cc)
-
-and_right : (a b : Bool) → (a && b) ≡ true → b ≡ true
-and_right true b e = e
-and_right false b e = absurd (cc)
-
-and_false : (a b : Bool) → a ≡ false → (a && b) ≡ false
-and_false true b e = absurd (cc)
-and_false false b e = refl
+abbrev Keeps : ℕ → MemoryState → MemoryState → Type 0
+Keeps n = Stays (λ (s : MemoryState). s.period) IsMemory n
 
 length_put_over : (bytes others : List ℕ) (at : ℕ) → at + length others ≤ length bytes → length (put_over bytes at others) ≡ length bytes
 length_put_over bytes others at h = grind (arith, common_steps)
@@ -79,15 +62,15 @@ served_valid s p w e v =
       waiting = rw same (All-drop (IsWaiting s.base (length s.bytes) s.period) 1 s.queue v.waiting);
     }
 
-kept_serve_of : (n : ℕ) (s : MemoryState) (p : PortView) (o : Option Waiting) → slice_get s.queue 0 ≡ o → Kept (Stays n) 1 s p (serve_of s p n o)
-kept_serve_of n s p None e = kept_nothing (Stays n) 1 s p (stays_same n s)
+kept_serve_of : (n : ℕ) (s : MemoryState) (p : PortView) (o : Option Waiting) → slice_get s.queue 0 ≡ o → Kept (Keeps n) 1 s p (serve_of s p n o)
+kept_serve_of n s p None e = kept_nothing (Keeps n) 1 s p (stays_same n s)
 kept_serve_of n s p (Some w) e =
     let test = nat_le w.deadline n && has_room p in
-    kept_where (Stays n) 1 s p (served s p w.request) test (stays_same n s) (λ h. record {
+    kept_where (Keeps n) 1 s p (served s p w.request) test (stays_same n s) (λ h. record {
       framed = sent_framed p (answer s w.request);
-      port_ok = sent_ok p (answer s w.request) (and_right (nat_le w.deadline n) (has_room p) h);
+      port_ok = sent_ok p (answer s w.request) (and_parts (nat_le w.deadline n) (has_room p) h).1;
       few = omega arith;
-      state = record { period = refl; valid = λ v b. served_valid s p w e v };
+      state = record { period_is = refl; valid_is = λ v b. served_valid s p w e v };
     })
 
 -- one has left the queue
@@ -117,32 +100,32 @@ joined_queue s queue depth n m v a b e f = record {
 taken_valid : (n : ℕ) (s : MemoryState) (p : PortView) (m : Msg) → accepts s.base (length s.bytes) m ≡ true → IsMemory s → n * s.period ≤ LATEST_TICK → IsMemory (taken s p m n).state
 taken_valid n s p m e v b = joined_queue s (s.queue ++ waiting_from s m n ∷ []) s.depth n m v e b refl refl
 
-kept_take_of : (n : ℕ) (s : MemoryState) (p : PortView) (o : Option Msg) → Kept (Stays n) 1 s p (take_of s p n o)
-kept_take_of n s p None = kept_nothing (Stays n) 1 s p (stays_same n s)
+kept_take_of : (n : ℕ) (s : MemoryState) (p : PortView) (o : Option Msg) → Kept (Keeps n) 1 s p (take_of s p n o)
+kept_take_of n s p None = kept_nothing (Keeps n) 1 s p (stays_same n s)
 kept_take_of n s p (Some m) =
     let test = accepts s.base (length s.bytes) m && has_place s in
-    kept_where (Stays n) 1 s p (taken s p m n) test (stays_same n s) (λ h. record {
+    kept_where (Keeps n) 1 s p (taken s p m n) test (stays_same n s) (λ h. record {
       framed = taken_framed p;
       port_ok = taken_ok p;
       few = omega arith;
-      state = record { period = refl; valid = λ v b. taken_valid n s p m (and_left (accepts s.base (length s.bytes) m) (has_place s) h) v b };
+      state = record { period_is = refl; valid_is = λ v b. taken_valid n s p m (and_parts (accepts s.base (length s.bytes) m) (has_place s) h).0 v b };
     })
 
 -- what both rules keep
-kept_both : (n : ℕ) (s : MemoryState) (p : PortView) → Kept (Stays n) 2 s p (then_rule (take_request n) (serve s p n))
+kept_both : (n : ℕ) (s : MemoryState) (p : PortView) → Kept (Keeps n) 2 s p (then_rule (take_request n) (serve s p n))
 kept_both n s p =
     let a = serve s p n in
-    kept_then (Stays n) (take_request n) 1 1 s p a (stays_trans n) (kept_serve_of n s p (slice_get s.queue 0) refl) (kept_take_of n a.state a.port (head_of a.port))
+    kept_then (Keeps n) (take_request n) 1 1 s p a (stays_trans n) (kept_serve_of n s p (slice_get s.queue 0) refl) (kept_take_of n a.state a.port (head_of a.port))
 
 pub memory_framed : (s : MemoryState) (ports : List PortView) (n : ℕ) → IsMemory s → AllPorts ports → length ports ≡ 1 → Framed MemoryState memory s ports n
 memory_framed s [] n v o e = absurd (omega arith)
 memory_framed s (p ∷ ps) n v o e =
     let k = kept_both n s p in
-    record { period = k.state.period; own = refl; ports = (k.framed, frames_same true ps); records = omega (arith, k.few) }
+    record { period = k.state.period_is; own = refl; ports = (k.framed, frames_same true ps); records = omega (arith, k.few) }
 
 pub memory_stays : (s : MemoryState) (ports : List PortView) (n : ℕ) → IsMemory s → AllPorts ports → length ports ≡ 1 → n * s.period ≤ LATEST_TICK → IsMemory (memory.step s ports n).state × AllPorts (memory.step s ports n).ports
 memory_stays s [] n v o e b = (v, tt)
-memory_stays s (p ∷ ps) n v o e b = let k = kept_both n s p in (k.state.valid v b, (k.port_ok o.0, o.1))
+memory_stays s (p ∷ ps) n v o e b = let k = kept_both n s p in (k.state.valid_is v b, (k.port_ok o.0, o.1))
 
 serve_quiet : (s : MemoryState) (p : PortView) (n : ℕ) (o : Option Waiting) → (serve_of s p n o).flag ≡ false → serve_of s p n o ≡ nothing s p
 serve_quiet s p n None f = refl
@@ -164,7 +147,7 @@ serve_later s p q n k (Some w) r b f =
     ap (λ (a : Act MemoryState). a.flag) (where_false s q (served s q w.request) (nat_le w.deadline k && has_room q) (by_test (nat_le w.deadline n) refl failed))
   where
     by_test : (a : Bool) → nat_le w.deadline n ≡ a → (a && has_room p) ≡ false → (nat_le w.deadline k && has_room q) ≡ false
-    by_test false e g = and_false (nat_le w.deadline k) (has_room q) (not_yet w.deadline n k e b)
+    by_test false e g = and_left (nat_le w.deadline k) (has_room q) (not_yet w.deadline n k e b)
     by_test true e g = no_room (nat_le w.deadline k) (has_room q) (sym r ∙ g)
       where
         no_room : (x y : Bool) → y ≡ false → (x && y) ≡ false

@@ -1,2 +1,3 @@
 pub mod PortView
 pub mod RecView
+pub mod Kinds

@@ -1,6 +1,7 @@
 -- What each step of an agent keeps, and the quiet law.
 use Rattle.std.specs.Prelude.{◌≡◌, ℕ, ◌+◌, ◌-◌, ◌*◌, ◌^◌, ◌<◌, ◌≤◌, ◌&&◌, List, [], ◌∷◌, length, Option, Some, None, Bool, true, false, nat_lt, nat_le, refl}
 use Rattle.std.proofs.Common.{sym, ◌∙◌, ap, subst, arith}
+use Rattle.std.proofs.lemmas.Bool.{and_parts, ltb-true}
 use Rattle.std.proofs.lemmas.Bool.Decides.{nat_tests}
 use Rattle.sim_base.specs.declared.time.TheConstants.{LATEST_TICK, LONGEST_PERIOD}
 use Rattle.port_msg.specs.PortView.{PortView}
@@ -11,27 +12,13 @@ use Rattle.tick_law.specs.Face.{SameFaces}
 use Rattle.tick_law.specs.Quiet.{Quiet, IsBelow}
 use Rattle.tick_law.specs.FrameLaws.{frames_same}
 use Rattle.tick_law.specs.OnePort.{Act, nothing, then_rule, head_of, has_room}
-use Rattle.tick_law.specs.OnePortLaws.{Kept, kept_nothing, kept_where, kept_then, where_failed, where_false, then_nothing, then_flag, or_left, taken_framed, taken_ok, sent_framed, sent_ok}
+use Rattle.tick_law.specs.OnePortLaws.{Stays, stays_same, stays_trans, Kept, kept_nothing, kept_where, kept_then, where_failed, where_false, then_nothing, then_flag, or_left, taken_framed, taken_ok, sent_framed, sent_ok}
 use Rattle.tick_law.specs.TimerLaws.{above_later, above_steady, not_yet, set_early, time_early}
 use Rattle.traffic_parts.specs.Agent.{AgentState, IsAgent, is_answer, answer_taken, answer_of, take_answer, request, is_open, is_ready, drawn, target, request_sent, request_where, send_request, next_of, agent}
 
 -- the period stays, and a state that an agent can be in leads to one
-record Stays (n : ℕ) (s t : AgentState) : Type 0 where
-  period : t.period ≡ s.period
-  valid : IsAgent s → n * s.period ≤ LATEST_TICK → IsAgent t
-
-stays_same : (n : ℕ) (s : AgentState) → Stays n s s
-stays_same n s = record { period = refl; valid = λ v e. v }
-
-stays_trans : (n : ℕ) (x y z : AgentState) → Stays n x y → Stays n y z → Stays n x z
-stays_trans n x y z a b = record { period = b.period ∙ a.period; valid = λ v e. b.valid (a.valid v e) (let p : y.period ≡ x.period = a.period in rw p e) }
-
-and_left : (a b : Bool) → (a && b) ≡ true → a ≡ true
-and_left true b e = refl
-and_left false b e = absurd (cc)
-
-lt_true : (a b : ℕ) → nat_lt a b ≡ true → a < b
-lt_true a b e = grind (arith, nat_tests)
+abbrev Keeps : ℕ → AgentState → AgentState → Type 0
+Keeps n = Stays (λ (s : AgentState). s.period) IsAgent n
 
 -- one more is answered
 pub one_answered : (s : AgentState) (total : ℕ) → IsAgent s → s.answered < s.issued → IsAgent (record s { answered = s.answered + 1; total = total })
@@ -41,48 +28,48 @@ one_answered s total v l = record { period_some = v.period_some; period_short = 
 pub one_issued : (s : AgentState) (n value : ℕ) → IsAgent s → n * s.period ≤ LATEST_TICK → s.issued < s.count → IsAgent (record s { issued = s.issued + 1; next = n + s.gap; value = value })
 one_issued s n value v b l = record { period_some = v.period_some; period_short = v.period_short; span_some = v.span_some; within_addresses = v.within_addresses; count_most = v.count_most; gap_short = v.gap_short; answered_issued = omega (arith, v.answered_issued); issued_few = omega (arith, l); early = set_early n s.gap s.period b v.gap_short }
 
-kept_answer_of : (n : ℕ) (s : AgentState) (p : PortView) (o : Option Msg) → Kept (Stays n) 1 s p (answer_of s p o)
-kept_answer_of n s p None = kept_nothing (Stays n) 1 s p (stays_same n s)
+kept_answer_of : (n : ℕ) (s : AgentState) (p : PortView) (o : Option Msg) → Kept (Keeps n) 1 s p (answer_of s p o)
+kept_answer_of n s p None = kept_nothing (Keeps n) 1 s p (stays_same n s)
 kept_answer_of n s p (Some m) =
     let test = nat_lt s.answered s.issued && is_answer m.kind m.len in
-    kept_where (Stays n) 1 s p (answer_taken s p m) test (stays_same n s) (λ h. record {
+    kept_where (Keeps n) 1 s p (answer_taken s p m) test (stays_same n s) (λ h. record {
       framed = taken_framed p;
       port_ok = taken_ok p;
       few = omega arith;
-      state = record { period = refl; valid = λ v b. one_answered s _ v (lt_true s.answered s.issued (and_left (nat_lt s.answered s.issued) (is_answer m.kind m.len) h)) };
+      state = record { period_is = refl; valid_is = λ v b. one_answered s _ v (ltb-true s.answered s.issued (and_parts (nat_lt s.answered s.issued) (is_answer m.kind m.len) h).0) };
     })
 
 -- who is ready has requests left
 pub ready_issued : (s : AgentState) (n : ℕ) → is_ready s n ≡ true → s.issued < s.count
-ready_issued s n e = lt_true s.issued s.count (and_left (nat_lt s.issued s.count) (nat_lt (s.issued - s.answered) s.window) (and_left (is_open s) (nat_le s.next n) e))
+ready_issued s n e = ltb-true s.issued s.count (and_parts (nat_lt s.issued s.count) (nat_lt (s.issued - s.answered) s.window) (and_parts (is_open s) (nat_le s.next n) e).0).0
 
-kept_request_where : (n : ℕ) (s : AgentState) (p : PortView) (b : Bool) (o : Option PortNo) → is_ready s n ≡ b → Kept (Stays n) 1 s p (request_where s p n b o)
-kept_request_where n s p false o e = kept_nothing (Stays n) 1 s p (stays_same n s)
-kept_request_where n s p true None e = kept_nothing (Stays n) 1 s p (stays_same n s)
+kept_request_where : (n : ℕ) (s : AgentState) (p : PortView) (b : Bool) (o : Option PortNo) → is_ready s n ≡ b → Kept (Keeps n) 1 s p (request_where s p n b o)
+kept_request_where n s p false o e = kept_nothing (Keeps n) 1 s p (stays_same n s)
+kept_request_where n s p true None e = kept_nothing (Keeps n) 1 s p (stays_same n s)
 kept_request_where n s p true (Some dst) e =
-    kept_where (Stays n) 1 s p (request_sent s p n dst) (has_room p) (stays_same n s) (λ h. record {
+    kept_where (Keeps n) 1 s p (request_sent s p n dst) (has_room p) (stays_same n s) (λ h. record {
       framed = sent_framed p (request s (drawn s) dst);
       port_ok = sent_ok p (request s (drawn s) dst) h;
       few = omega arith;
-      state = record { period = refl; valid = λ v b. one_issued s n (drawn s) v b (ready_issued s n e) };
+      state = record { period_is = refl; valid_is = λ v b. one_issued s n (drawn s) v b (ready_issued s n e) };
     })
 
 -- what both rules keep
-kept_both : (n : ℕ) (s : AgentState) (p : PortView) → Kept (Stays n) 2 s p (then_rule (send_request n) (take_answer s p))
+kept_both : (n : ℕ) (s : AgentState) (p : PortView) → Kept (Keeps n) 2 s p (then_rule (send_request n) (take_answer s p))
 kept_both n s p =
     let a = take_answer s p in
     let t = a.state in
-    kept_then (Stays n) (send_request n) 1 1 s p a (stays_trans n) (kept_answer_of n s p (head_of p)) (kept_request_where n t a.port (is_ready t n) (target t) refl)
+    kept_then (Keeps n) (send_request n) 1 1 s p a (stays_trans n) (kept_answer_of n s p (head_of p)) (kept_request_where n t a.port (is_ready t n) (target t) refl)
 
 pub agent_framed : (s : AgentState) (ports : List PortView) (n : ℕ) → IsAgent s → AllPorts ports → length ports ≡ 1 → Framed AgentState agent s ports n
 agent_framed s [] n v o e = absurd (omega arith)
 agent_framed s (p ∷ ps) n v o e =
     let k = kept_both n s p in
-    record { period = k.state.period; own = refl; ports = (k.framed, frames_same true ps); records = omega (arith, k.few) }
+    record { period = k.state.period_is; own = refl; ports = (k.framed, frames_same true ps); records = omega (arith, k.few) }
 
 pub agent_stays : (s : AgentState) (ports : List PortView) (n : ℕ) → IsAgent s → AllPorts ports → length ports ≡ 1 → n * s.period ≤ LATEST_TICK → IsAgent (agent.step s ports n).state × AllPorts (agent.step s ports n).ports
 agent_stays s [] n v o e b = (v, tt)
-agent_stays s (p ∷ ps) n v o e b = let k = kept_both n s p in (k.state.valid v b, (k.port_ok o.0, o.1))
+agent_stays s (p ∷ ps) n v o e b = let k = kept_both n s p in (k.state.valid_is v b, (k.port_ok o.0, o.1))
 
 answer_quiet : (s : AgentState) (p : PortView) (o : Option Msg) → (answer_of s p o).flag ≡ false → answer_of s p o ≡ nothing s p
 answer_quiet s p None f = refl
