@@ -3,11 +3,7 @@
 
 mod map;
 mod range;
-mod ranges;
 mod start;
-mod targets;
 
 pub use map::AddrMap;
-pub use range::Range;
-pub use ranges::Ranges;
-pub use targets::Targets;
+pub use range::{Range, Ranges, Targets};

@@ -115,7 +115,7 @@ impl AddrMap {
 #[cfg(test)]
 mod tests {
     use super::*;
-    use crate::targets::Targets;
+    use crate::range::Targets;
 
     fn range(
         alloc: Global,

@@ -1,9 +1,14 @@
 ghost use Rattle.std.specs.Prelude.{◌≡◌, ◌↔◌, IsTrue, IfOk};
 ghost use Rattle.addr_map.specs.Range.{IsRange, Holds, target_of};
 
-use crate::targets::Targets;
-use sim_base::{OutOfMemory, PortNo};
+use sim_base::{ItemList, OutOfMemory, PortNo};
 use std::alloc::Global;
+
+/// A list of ports.
+pub type Targets = ItemList<PortNo>;
+
+/// A list of ranges.
+pub type Ranges = ItemList<Range>;
 
 /// A range of addresses and the ports that serve it in turn, each a granule at a time.
 #[derive(Drop)]
