@@ -1,13 +1,13 @@
 -- What one actor's step leaves, where actors and ports all stand in their places.
-use Rattle.std.proofs.Common.{◌≡◌, ℕ, ◌+◌, ◌<◌, ◌/◌, ◌%◌, List, [], length, get_or, sym, ◌∙◌, ap, subst, arith, refl}
+use Rattle.std.proofs.Common.{◌≡◌, ℕ, ◌+◌, ◌<◌, ◌/◌, ◌%◌, ◌++◌, List, [], length, get_or, sym, ◌∙◌, ap, subst, arith, refl}
 use Rattle.std.specs.Prelude.{Option, Some, None, Bool, true, false, ◌==◌, IsTrue, slice_get, slice_set}
 use Rattle.std.proofs.lemmas.Bool.{false≢true, eq-eqb, ne_eqb}
 use Rattle.std.proofs.lemmas.Option.{slice_get-get_or}
 use Rattle.std.proofs.lemmas.List.{append-nil, set-get_or, length-set}
-use Rattle.port_msg.specs.RecView.{RecView, appended_all}
+use Rattle.port_msg.specs.RecView.{RecView, appended_all, records_at}
 use Rattle.port_msg.specs.PortView.{PortView, port_view}
 use Rattle.tick_law.specs.Machine.{Machine, Outcome}
-use Rattle.tick_law.specs.Wires.{Has}
+use Rattle.tick_law.specs.Wires.{own_of, Has}
 use Rattle.tick_law.specs.WorldPlaces.{SidePlaces, alls, emptied}
 use Rattle.tick_law.specs.Pass.{gather, has_edge, port_at}
 use Rattle.tick_law.specs.Outcomes.{outcome_if, whats_of, flag_of, charge_of}
@@ -18,7 +18,8 @@ use Rattle.model_laws.proofs.OnePortMore.{side_places_is}
 use Rattle.model_laws.proofs.ActorByActor.{alls_forth, alls_set}
 use Rattle.model_laws.proofs.OneMoreActor.{length-scatter, scatter_other}
 use Rattle.port_rows.specs.Rows.{RowsView}
-use Rattle.actor_turn.specs.Turn.{TurnState, CanAct, HasActed}
+use Rattle.actor_turn.specs.declared.side.SideGear.{SideGear}
+use Rattle.actor_turn.specs.Act.{ActState, CanAct, HasActed}
 
 module _ {S : Type 0} where
   pub at_place : (states : List S) (i : ℕ) (d : S) → i < length states → slice_get (alls states) i ≡ Some (Some (get_or states i d))
@@ -62,17 +63,16 @@ module _ {S : Type 0} where
   pub flag_is : (o p : Outcome S) → o ≡ p → o.flag ≡ p.flag
   flag_is o p e = ap (λ (x : Outcome S). x.flag) e
 
-pub nothing_more : (r : RecView) → r ≡ appended_all r []
-nothing_more r = ap (λ l. let x : RecView = record r { items = l } in x) (sym (append-nil r.items))
-
 module _ {S : Type 0} where
   -- what is read at a place of a list
   pub read_at : (xs : List S) (i : ℕ) (x : S) → i < length xs → x ≡ get_or xs i x → slice_get xs i ≡ Some x
   read_at xs i x b is = slice_get-get_or xs i x b ∙ ap (λ y. Some y) (sym is)
 
   -- without an edge nothing has changed
-  pub acted_wait : (m : Machine S) (own : List ℕ) (i t p : ℕ) (s : S) (old : TurnState S) → CanAct m own i t old → s ≡ get_or old.actors i s → p ≡ m.period s → (t % p ≡ 0 → ⊥) → HasActed m own i t old (record old { actors = slice_set old.actors i s }) false
-  acted_wait m own i t p s old can is per apart =
+  pub acted_wait : (m : Machine S) (mine : SideGear) (i t p : ℕ) (s : S) (old : ActState S) (begun : RecView) → CanAct m mine i t old → begun ≡ record old.recs { at = t; actor = mine.first + i } → s ≡ get_or old.actors i s → p ≡ m.period s → (t % p ≡ 0 → ⊥) →
+      HasActed m mine i t old (record old { actors = slice_set old.actors i s; recs = begun }) false
+  acted_wait m mine i t p s old begun can starts is per apart =
+      let own = own_of mine.wiring i in
       let states = old.actors in
       let ports = old.rows.ports in
       let at : slice_get (alls states) i ≡ Some (Some s) = alls_forth states i s (read_at states i s can.here is) in
@@ -86,49 +86,47 @@ module _ {S : Type 0} where
         wires = refl;
         long = refl;
         others = λ q n. refl;
-        next_stays = refl;
-        recs_are = nothing_more old.recs ∙ sym (ap (λ o. appended_all old.recs (whats_of o)) none);
+        room = ap (λ (r : RecView). r.room) starts;
+        records_are =
+            ap (λ (r : RecView). r.items) starts
+            ∙ sym (append-nil old.recs.items)
+            ∙ sym (ap (λ o. old.recs.items ++ records_at t (mine.first + i) (whats_of o)) none);
         flag_is = sym (ap (λ o. flag_of o) none);
         steps_are = omega (arith, ap (λ o. charge_of o) none);
         gives_all = λ s' at' edge'. absurd (no_edge m t s s' (same_state s s' (sym at ∙ at')) edge edge');
       }
 
   -- at an edge the actor has stepped
-  stepped : (m : Machine S) (own : List ℕ) (i t p : ℕ) (s s' : S) (old : TurnState S) (rows : RowsView) (recs : RecView) (steps : ℕ) (flag : Bool) → CanAct m own i t old → s ≡ get_or old.actors i s → p ≡ m.period s → t % p ≡ 0 →
+  pub acted_edge : (m : Machine S) (mine : SideGear) (own : List ℕ) (i t p : ℕ) (s s' : S) (old : ActState S) (begun : RecView) (rows : RowsView) (recs : RecView) (steps : ℕ) (flag : Bool) → CanAct m mine i t old → begun ≡ record old.recs { at = t; actor = mine.first + i } → own ≡ own_of mine.wiring i → s ≡ get_or old.actors i s → p ≡ m.period s → t % p ≡ 0 →
       let out = m.step s (gather old.rows.ports own) (t / p) in
-      length out.ports ≡ length own → s' ≡ out.state → rows ≡ record old.rows { ports = scatter old.rows.ports own out.ports } → recs ≡ appended_all old.recs out.records → flag ≡ out.flag → steps ≡ old.steps + 1 →
-      HasActed m own i t old (record old { actors = slice_set old.actors i s'; rows = rows; recs = recs; steps = steps }) flag
-  stepped m own i t p s s' old rows recs steps flag can is per zero long state rows_are recs_are flag_are steps_are =
+      length out.ports ≡ length own → s' ≡ out.state → rows ≡ record old.rows { ports = scatter old.rows.ports own out.ports } → recs ≡ appended_all begun out.records → flag ≡ out.flag → steps ≡ old.steps + 1 →
+      HasActed m mine i t old (record old { actors = slice_set old.actors i s'; rows = rows; recs = recs; steps = steps }) flag
+  acted_edge m mine own i t p s s' old begun rows recs steps flag can starts read is per zero long state rows_are recs_are flag_are steps_are =
       let states = old.actors in
       let ports = old.rows.ports in
+      let row = own_of mine.wiring i in
       let at : slice_get (alls states) i ≡ Some (Some s) = alls_forth states i s (read_at states i s can.here is) in
       let edge : has_edge m t s ≡ true = ap (λ x. t % x == 0) (sym per) ∙ eq-eqb (t % p) 0 zero in
-      let out = m.step s (gather ports own) (t / m.period s) in
-      let cycle : m.step s (gather ports own) (t / p) ≡ out = ap (λ x. m.step s (gather ports own) (t / x)) per in
-      let gave = made m own i t states ports s at edge in
-      let full : length out.ports ≡ length own = sym (ap length (ports_is _ _ cycle)) ∙ long in
+      let out = m.step s (gather ports row) (t / m.period s) in
+      let cycle : m.step s (gather ports own) (t / p) ≡ out = ap (λ x. m.step s (gather ports own) (t / x)) per ∙ ap (λ l. m.step s (gather ports l) (t / m.period s)) read in
+      let gave = made m row i t states ports s at edge in
+      let full : length out.ports ≡ length row = sym (ap length (ports_is _ _ cycle)) ∙ long ∙ ap length read in
       record {
         places_are =
             ap (λ x. side_places (alls (slice_set states i x)) (alls rows.ports)) (state ∙ state_is _ _ cycle)
-            ∙ ap (λ l. side_places (alls (slice_set states i out.state)) (alls l)) (ap (λ (v : RowsView). v.ports) rows_are ∙ ap (scatter ports own) (ports_is _ _ cycle))
-            ∙ act_edge m own i t states ports s at edge can.within full;
+            ∙ ap (λ l. side_places (alls (slice_set states i out.state)) (alls l)) (ap (λ (v : RowsView). v.ports) rows_are ∙ ap (scatter ports own) (ports_is _ _ cycle) ∙ ap (λ l. scatter ports l out.ports) read)
+            ∙ act_edge m row i t states ports s at edge (λ q h. can.wired.within i q h) full;
         all_actors = length-set states i s';
         seen = ap (λ (v : RowsView). v.seen) rows_are;
         wires = ap (λ (v : RowsView). v.wires) rows_are;
         long = ap (λ (v : RowsView). length v.ports) rows_are ∙ length-scatter ports own _;
-        others = λ q n. ap (λ (v : RowsView). port_at v.ports q) rows_are ∙ scatter_other ports own _ q (port_view [] [] 0) n;
-        next_stays = refl;
-        recs_are = recs_are ∙ ap (appended_all old.recs) (records_is _ _ cycle) ∙ sym (ap (λ o. appended_all old.recs (whats_of o)) gave);
+        others = λ q n. ap (λ (v : RowsView). port_at v.ports q) rows_are ∙ scatter_other ports own _ q (port_view [] [] 0) (λ h. n (subst (λ l. Has l q) read h));
+        room = ap (λ (r : RecView). r.room) recs_are ∙ ap (λ (r : RecView). r.room) starts;
+        records_are =
+            ap (λ (r : RecView). r.items) (recs_are ∙ ap (appended_all begun) (records_is _ _ cycle))
+            ∙ ap (λ (r : RecView). r.items ++ records_at r.at r.actor out.records) starts
+            ∙ sym (ap (λ o. old.recs.items ++ records_at t (mine.first + i) (whats_of o)) gave);
         flag_is = flag_are ∙ flag_is _ _ cycle ∙ sym (ap (λ o. flag_of o) gave);
         steps_are = omega (arith, steps_are, ap (λ o. charge_of o) gave);
-        gives_all = λ x at' edge'. same_long m own t ports s x (same_state s x (sym at ∙ at')) full;
+        gives_all = λ x at' edge'. same_long m row t ports s x (same_state s x (sym at ∙ at')) full;
       }
-
-  -- the same, where the list of own ports was read
-  pub acted_edge : (m : Machine S) (own mine : List ℕ) (i t p : ℕ) (s s' : S) (old : TurnState S) (rows : RowsView) (recs : RecView) (steps : ℕ) (flag : Bool) → mine ≡ own → CanAct m own i t old → s ≡ get_or old.actors i s → p ≡ m.period s → t % p ≡ 0 →
-      let out = m.step s (gather old.rows.ports mine) (t / p) in
-      length out.ports ≡ length mine → s' ≡ out.state → rows ≡ record old.rows { ports = scatter old.rows.ports mine out.ports } → recs ≡ appended_all old.recs out.records → flag ≡ out.flag → steps ≡ old.steps + 1 →
-      HasActed m own i t old (record old { actors = slice_set old.actors i s'; rows = rows; recs = recs; steps = steps }) flag
-  acted_edge m own mine i t p s s' old rows recs steps flag e can is per zero long state rows_are recs_are flag_are steps_are =
-      subst (λ x. HasActed m x i t old (record old { actors = slice_set old.actors i s'; rows = rows; recs = recs; steps = steps }) flag) e
-      (stepped m mine i t p s s' old rows recs steps flag (subst (λ x. CanAct m x i t old) (sym e) can) is per zero long state rows_are recs_are flag_are steps_are)

@@ -1,3 +1,4 @@
 pub mod WakingLaws
 pub mod ActLaws
+pub mod WithinLaws
 pub mod TurnLaws

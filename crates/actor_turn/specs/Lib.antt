@@ -1,4 +1,5 @@
 pub mod Side
+pub mod Act
 pub mod Turn
 pub mod Next
 pub mod Hit

@@ -1,17 +1,16 @@
 -- What an actor's turn needs, and what it does.
-use Rattle.std.specs.Prelude.{◌≡◌, ℕ, ◌+◌, ◌*◌, ◌/◌, ◌%◌, ◌==◌, ◌^◌, ◌<◌, ◌≤◌, ◌++◌, List, [], length, map, slice_get, slice_index_or, slice_set, Option, Some, Bool, IsTrue}
-use Rattle.port_msg.specs.PortView.{PortView}
-use Rattle.port_msg.specs.RecView.{RecView, records_at, appended_all}
+use Rattle.std.specs.Prelude.{◌≡◌, ℕ, ◌+◌, ◌*◌, ◌^◌, ◌<◌, ◌≤◌, ◌++◌, List, [], length, map, slice_get, slice_index_or, slice_set, Option, Some, Bool}
+use Rattle.port_msg.specs.RecView.{RecView, records_at}
 use Rattle.sim_base.specs.declared.time.Time.{Time}
-use Rattle.tick_law.specs.Machine.{Machine, Outcome}
-use Rattle.tick_law.specs.Wires.{own_of, Has, Wired}
+use Rattle.sim_base.specs.declared.time.TheConstants.{LATEST_TIME}
+use Rattle.tick_law.specs.Machine.{Machine}
+use Rattle.tick_law.specs.Wires.{own_of, Wired}
 use Rattle.tick_law.specs.WorldPlaces.{SidePlaces, alls}
-use Rattle.tick_law.specs.Pass.{Side, gather, port_at}
+use Rattle.tick_law.specs.Pass.{Side}
 use Rattle.tick_law.specs.Outcomes.{whats_of, flag_of, charge_of}
 use Rattle.tick_law.specs.NextTime.{woken}
 use Rattle.tick_law.specs.Course.{any_of}
 use Rattle.model_laws.specs.Pass.{act_at, side_places}
-use Rattle.model_laws.specs.Outcome.{outcome_at}
 use Rattle.model_laws.specs.NextTable.{IsTable, next_at_place}
 use Rattle.model_laws.specs.SideTimes.{half_of, AreSides}
 use Rattle.model_laws.specs.Changed.{changed_of}
@@ -20,6 +19,7 @@ use Rattle.port_rows.specs.Rows.{RowsView}
 use Rattle.port_rows.specs.declared.world.World.{World}
 use Rattle.actor_turn.specs.declared.gear.RowGear.{RowGear}
 use Rattle.actor_turn.specs.declared.side.SideGear.{SideGear}
+use Rattle.actor_turn.specs.Act.{ActState, side, given, GivesAll}
 use Rattle.actor_turn.specs.Side.{times_of, edge_of, wake_time}
 use Rattle.actor_turn.specs.Next.{next_seat_of}
 use Rattle.actor_turn.specs.Waking.{CanWake}
@@ -54,10 +54,11 @@ module _ {P N : Type 0} where
   links_in w g steps = record { actors = w.links.items; rows = w.rows; next = g.next; recs = g.recs; steps = steps }
 
 module _ {S : Type 0} where
-  -- one side of a world
-  abbrev pub side : List S → List PortView → Side S
-  side states ports = record { states = states; ports = ports }
+  -- what its steps read and change
+  abbrev pub acting : TurnState S → ActState S
+  acting s = record { actors = s.actors; rows = s.rows; recs = s.recs; steps = s.steps }
 
+  -- the side that has turns
   abbrev pub side_in : TurnState S → Side S
   side_in s = side s.actors s.rows.ports
 
@@ -69,38 +70,6 @@ module _ {S : Type 0} where
   abbrev pub own_next : SideGear → TurnState S → List (Option ℕ)
   own_next mine s = half_of mine.first (length s.actors) s.next
 
-  -- what actor i gives at t, or None where it has no edge then
-  abbrev pub given : Machine S → List ℕ → ℕ → ℕ → TurnState S → Option (Outcome S)
-  given m own i t s = outcome_at m own t s.rows.ports (slice_get (alls s.actors) i)
-
-  -- a step gives back as many ports as it takes
-  abbrev pub GivesAll : Machine S → List ℕ → ℕ → ℕ → TurnState S → Type 0
-  GivesAll m own i t old =
-      (s : S) → slice_get (alls old.actors) i ≡ Some (Some s) → IsTrue (t % m.period s == 0) →
-      length (m.step s (gather old.rows.ports own) (t / m.period s)).ports ≡ length own
-
-  -- what the step of an actor needs
-  pub record CanAct (m : Machine S) (own : List ℕ) (i t : ℕ) (old : TurnState S) : Type 0 where
-    pub here : i < length old.actors
-    pub within : (q : ℕ) → Has own q → q < length old.rows.ports
-    pub count : (s : S) → slice_get old.actors i ≡ Some s → length own ≡ m.own s
-    pub time : t ≤ 501000000000
-    pub room : length old.recs.items + 64 * length own ≤ old.recs.room
-
-  -- an actor has stepped at t with its own ports, where it has an edge then, and else nothing has changed
-  pub record HasActed (m : Machine S) (own : List ℕ) (i t : ℕ) (old new : TurnState S) (flag : Bool) : Type 0 where
-    pub places_are : places_in new ≡ act_at m own i t (places_in old) (slice_get (alls old.actors) i)
-    pub all_actors : length new.actors ≡ length old.actors
-    pub seen : new.rows.seen ≡ old.rows.seen
-    pub wires : new.rows.wires ≡ old.rows.wires
-    pub long : length new.rows.ports ≡ length old.rows.ports
-    pub others : (q : ℕ) → (Has own q → ⊥) → port_at new.rows.ports q ≡ port_at old.rows.ports q
-    pub next_stays : new.next ≡ old.next
-    pub recs_are : new.recs ≡ appended_all old.recs (whats_of (given m own i t old))
-    pub flag_is : flag ≡ flag_of (given m own i t old)
-    pub steps_are : new.steps ≡ old.steps + charge_of (given m own i t old)
-    pub gives_all : GivesAll m own i t old
-
   -- what the turn of an actor needs
   pub record CanTurn (m : Machine S) (mine others : SideGear) (i t : ℕ) (old : TurnState S) : Type 0 where
     pub here : i < length old.actors
@@ -108,7 +77,7 @@ module _ {S : Type 0} where
     pub rows : length mine.wiring.own ≡ length old.actors
     pub settled : old.rows.seen ≡ map face_of old.rows.ports
     pub count : (s : S) → slice_get old.actors i ≡ Some s → length (own_of mine.wiring i) ≡ m.own s
-    pub time : t ≤ 500000000000
+    pub time : t ≤ LATEST_TIME
     pub room : length old.recs.items + 64 * length (own_of mine.wiring i) ≤ old.recs.room
     pub wakes : CanWake others (length old.rows.ports) old.next
     pub sides : AreSides (length old.next) mine.first (length old.actors) others.first (length others.periods.items)
@@ -130,10 +99,10 @@ module _ {S : Type 0} where
     pub settled : new.rows.seen ≡ map face_of new.rows.ports
     pub long : length new.rows.ports ≡ length old.rows.ports
     pub room : new.recs.room ≡ old.recs.room
-    pub records_are : new.recs.items ≡ old.recs.items ++ records_at t (mine.first + i) (whats_of (given m (own_of mine.wiring i) i t old))
-    pub flag_is : flag ≡ flag_of (given m (own_of mine.wiring i) i t old)
-    pub steps_are : new.steps ≡ old.steps + charge_of (given m (own_of mine.wiring i) i t old)
-    pub gives_all : GivesAll m (own_of mine.wiring i) i t old
+    pub records_are : new.recs.items ≡ old.recs.items ++ records_at t (mine.first + i) (whats_of (given m (own_of mine.wiring i) i t (acting old)))
+    pub flag_is : flag ≡ flag_of (given m (own_of mine.wiring i) i t (acting old))
+    pub steps_are : new.steps ≡ old.steps + charge_of (given m (own_of mine.wiring i) i t (acting old))
+    pub gives_all : GivesAll m (own_of mine.wiring i) i t (acting old)
     pub all_next : length new.next ≡ length old.next
     pub own : own_next mine new ≡ slice_set (own_next mine old) i (next_seat_of m t flag (next_at_place (own_next mine old) i) (slice_get new.actors i))
     pub woken_are : AreWoken part mine others i t old new

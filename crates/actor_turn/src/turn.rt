@@ -3,12 +3,11 @@ ghost use Rattle.std.specs.Prelude.{◌≡◌, ℕ, ◌<◌, length, true, false
 ghost use Rattle.tick_law.specs.Wires.{own_of};
 ghost use Rattle.actor_turn.specs.Turn.{CanTurn, HasTurned, GearStays, hand_at, links_in, parts_in};
 
-use crate::act::{act_link, act_part};
 use crate::gear::RowGear;
 use crate::next::note_next;
 use crate::wake::{wake_links, wake_parts};
 use port_rows::World;
-use sim_base::{ActorNo, Steps, Time};
+use sim_base::{ActorNo, Steps};
 use std::sync::ledger::Ledger;
 use tick_law::Actor;
 
@@ -31,10 +30,9 @@ pub fn link_turn<P: Drop, N: Actor + Drop, L: Ledger, M: Ledger>(
     ensures parts { world.new.parts ≡ world.old.parts }
     ensures stays { GearStays gear.old gear.new }
 {
-    let who = ActorNo(gear.links.first + no);
-    gear.recs.begin(Time(t), who);
-    let flag = act_link(world, gear, no, t, steps);
+    let flag = gear.links.act_link(world, no, t, &mut gear.recs, steps);
     let link = &world.links[no as usize];
+    let who = ActorNo(gear.links.first + no);
     note_next(link, who, t, flag, &mut gear.next, looks);
     wake_parts(
         &mut world.rows,
@@ -67,10 +65,12 @@ pub fn part_turn<P: Actor + Drop, N: Drop, L: Ledger, M: Ledger>(
     ensures links { world.new.links ≡ world.old.links }
     ensures stays { GearStays gear.old gear.new }
 {
-    let who = ActorNo(gear.parts.first + no);
-    gear.recs.begin(Time(t), who);
-    let flag = act_part(world, gear, no, t, steps);
+    let hand = &mut gear.hands[no as usize];
+    let flag = gear
+        .parts
+        .act_part(world, hand, no, t, &mut gear.recs, steps);
     let part = &world.parts[no as usize];
+    let who = ActorNo(gear.parts.first + no);
     note_next(part, who, t, flag, &mut gear.next, looks);
     let own = gear.parts.wiring.own(no);
     wake_links(&mut world.rows, own, &gear.links, t, &mut gear.next, looks);

@@ -19,7 +19,8 @@ use Rattle.actor_turn.specs.Turn.{TurnState, side_in, places_in, own_next, CanTu
 use Rattle.actor_turn.specs.Waking.{CanWake}
 use Rattle.actor_turn.proofs.WakingLaws.{can_wake_still}
 use Rattle.due_pass.specs.Pass.{CanPass, HasPassed, HasWoken, is_due}
-use Rattle.due_pass.proofs.PassGlue.{Within, within, glue_none, glue_turn, ports_of, gone_upto}
+use Rattle.actor_turn.proofs.WithinLaws.{Within, within, ports_of}
+use Rattle.due_pass.proofs.PassGlue.{glue_none, glue_turn, gone_upto}
 
 module _ {S : Type 0} where
   -- what is true when those below `at` have had their turns

@@ -13,12 +13,9 @@ use Rattle.tick_law.specs.Laws.{Lawful}
 use Rattle.model_laws.specs.Pass.{act_at, side_places, whole_side}
 use Rattle.model_laws.specs.Outcome.{outcome_at}
 use Rattle.model_laws.proofs.PortsPutBack.{somes-alls, alls_full}
-use Rattle.model_laws.proofs.ActorByActor.{length_states, length_ports}
-use Rattle.model_laws.proofs.WorldsAreSound.{room_after}
 use Rattle.model_laws.proofs.TwoPasses.{side_alls}
-use Rattle.model_laws.specs.WellFormed.{HasRoom, IsSound}
-use Rattle.model_laws.proofs.SleepersChangeNothing.{pass_sound}
-use Rattle.model_laws.specs.NextTable.{chosen, due_in, next_at_place, next_seat}
+use Rattle.model_laws.specs.WellFormed.{IsSound}
+use Rattle.model_laws.specs.NextTable.{chosen, due_in, next_at_place}
 use Rattle.model_laws.specs.Stepping.{Due}
 use Rattle.std.proofs.lemmas.Bool.{false≢true}
 use Rattle.sim_base.specs.declared.time.Time.{Time}
@@ -29,14 +26,10 @@ use Rattle.model_laws.specs.SideTimes.{half_of}
 use Rattle.model_laws.proofs.SideTimesLaws.{half_at}
 use Rattle.model_laws.proofs.TurnByTurn.{Gone, gone_none, gone_over, gone_turn, due_of, not_due_of}
 use Rattle.actor_turn.specs.Next.{next_seat_of}
-use Rattle.actor_turn.specs.Turn.{side}
+use Rattle.actor_turn.specs.Act.{side}
+use Rattle.actor_turn.proofs.WithinLaws.{seat_at}
 
 module _ {S : Type 0} where
-  seat_at : (m : Machine S) (t : ℕ) (flag : Bool) (old : Option ℕ) (xs : List S) (i : ℕ) → next_seat_of m t flag old (slice_get xs i) ≡ next_seat m t flag old (slice_get (alls xs) i)
-  seat_at m t flag old [] i = refl
-  seat_at m t flag old (x ∷ xs) zero = refl
-  seat_at m t flag old (x ∷ xs) (suc i) = seat_at m t flag old xs i
-
   pub glue_none : (m : Machine S) (w : Wires) (t base : ℕ) (states : List S) (ports : List PortView) (start : List (Option ℕ)) (items : List Record) (steps : ℕ) → Gone m w t base 0 (side states ports) start (side_places (alls states) (alls ports)) start items items false steps steps
   glue_none m w t base states ports start items steps =
       subst (λ (h : Side S). Gone m w t base 0 h start (side_places (alls states) (alls ports)) start items items false steps steps) (side_alls (alls states) (alls ports) states ports refl refl)
@@ -62,28 +55,6 @@ module _ {S : Type 0} where
       flag_is
       (steps_are ∙ ap (λ ps. steps + charge_of (outcome_at m own t ps o)) (sym e) ∙ ap (λ x. steps + charge_of (outcome_at m x t (somes (alls ports)) o)) mine)
       (half_is ∙ ap (slice_set half i) (seat_at m t turned (next_at_place half i) states' i))
-
-  -- a side within a pass
-  pub record Within (m : Machine S) (w : Wires) (states : List S) (ports ports' : List PortView) (states' : List S) : Type 0 where
-    pub long_states : length states' ≡ length states
-    pub long_ports : length ports' ≡ length ports
-    pub count : (i : ℕ) (s : S) → slice_get states' i ≡ Some s → length (own_of w i) ≡ m.own s
-
-  pub within : (m : Machine S) (valid : S → Type 0) (w : Wires) (stepped : ℕ → Bool) (t : ℕ) (states states' : List S) (ports ports' : List PortView) (hand room : ℕ) → Lawful m valid → HasRoom S m w (side states ports) hand room → IsSound m valid w (side states ports) → t ≤ 501000000000 → side_places (alls states') (alls ports') ≡ whole_side (pass m w stepped t (side states ports)) → Within m w states ports ports' states'
-  within m valid w stepped t states states' ports ports' hand room law fits sound small is =
-      let h = side states ports in
-      let k = pass m w stepped t h in
-      let a : states' ≡ k.states = sym (somes-alls states') ∙ ap (λ (x : SidePlaces S). somes x.actors) is ∙ somes-alls k.states in
-      let p : ports' ≡ k.ports = sym (somes-alls ports') ∙ ap (λ (x : SidePlaces S). somes x.ports) is ∙ somes-alls k.ports in
-      let able = room_after m valid w h k hand room fits (length_states m w stepped t h) (length_ports m w stepped t h) (pass_sound m valid w stepped t h law fits.wired small sound) in
-      record {
-        long_states = ap length a ∙ length_states m w stepped t h;
-        long_ports = ap length p ∙ length_ports m w stepped t h;
-        count = λ i s e. able.count i s (sym (ap (λ l. slice_get l i) a) ∙ e);
-      }
-
-  pub ports_of : (states' : List S) (ports' : List PortView) (k : Side S) → side_places (alls states') (alls ports') ≡ whole_side k → ports' ≡ k.ports
-  ports_of states' ports' k is = sym (somes-alls ports') ∙ ap (λ (x : SidePlaces S). somes x.ports) is ∙ somes-alls k.ports
 
   -- those that are not marked are passed over
   pub gone_upto : (m : Machine S) (w : Wires) (t base at n : ℕ) (h : Side S) (start : List (Option ℕ)) (places : SidePlaces S) (half : List (Option ℕ)) (items0 items : List Record) (flag : Bool) (steps0 steps : ℕ) → at ≤ n → ((j : ℕ) → at ≤ j → j < n → chosen Due start t j ≡ false) → Gone m w t base at h start places half items0 items flag steps0 steps → Gone m w t base n h start places half items0 items flag steps0 steps

@@ -30,7 +30,8 @@ use Rattle.model_laws.specs.Changed.{changed}
 use Rattle.model_laws.proofs.SideTimesLaws.{length-half}
 use Rattle.model_laws.proofs.DuePassDid.{Did, did_of, did_as}
 use Rattle.actor_turn.specs.declared.side.SideGear.{SideGear}
-use Rattle.actor_turn.specs.Turn.{side, TurnState, GearStays, parts_in, links_in}
+use Rattle.actor_turn.specs.Act.{side, whole}
+use Rattle.actor_turn.specs.Turn.{TurnState, GearStays, parts_in, links_in}
 use Rattle.actor_turn.specs.Waking.{CanWake}
 use Rattle.actor_turn.specs.Side.{times_of, edge_of, AreInOrder, wake_time}
 use Rattle.actor_turn.specs.Ready.{IsReady}
@@ -38,7 +39,7 @@ use Rattle.actor_turn.specs.declared.gear.RowGear.{RowGear}
 use Rattle.port_rows.specs.declared.world.World.{World}
 use Rattle.port_row.specs.Row.{face_of}
 use Rattle.due_pass.specs.Pass.{CanPass, HasPassed}
-use Rattle.due_pass.specs.Time.{whole, run_of}
+use Rattle.due_pass.specs.Time.{run_of}
 
 -- what a pass asks of the rows, the tables and the room
 pub record RowAsks {S : Type 0} (m : Machine S) (valid : S → Type 0) (w : Wires) (states : List S) (ports : List PortView) (room items : ℕ) (mine others : SideGear) (next : List (Option Time)) : Type 0 where
@@ -72,10 +73,6 @@ module _ {S : Type 0} where
         sides = subst (λ n. AreSides (length next) mine.first n others.first (length others.periods.items)) (sym count) (record { own_within = in_all; others_within = here; apart = apart });
         few = (let a = asks.few in omega (arith, a, long, e));
       }
-
-  pub states_long : (m : Machine S) (w : Wires) (stepped : ℕ → Bool) (t : ℕ) (states states' : List S) (ports ports' : List PortView) → side_places (alls states') (alls ports') ≡ whole_side (pass m w stepped t (side states ports)) → length states' ≡ length states
-  states_long m w stepped t states states' ports ports' e =
-      sym (length-alls states') ∙ ap (λ (x : SidePlaces S). length x.actors) e ∙ length-alls (pass m w stepped t (side states ports)).states ∙ length_states m w stepped t (side states ports)
 
   -- from what a pass over rows ensures
   pub did_rows : (m : Machine S) (w w' : Wires) (part : Bool) (t from : ℕ) (mine others : SideGear) (states states' : List S) (ports ports' : List PortView) (next next' : List (Option Time)) (items items' : List Record) (flag : Bool) (steps steps' : ℕ) →

@@ -5,9 +5,10 @@ ghost use Rattle.tick_law.specs.Verdict.{awake_now};
 ghost use Rattle.model_laws.specs.Outcome.{own_to};
 ghost use Rattle.model_laws.specs.Fitted.{Fitted};
 ghost use Rattle.model_laws.specs.Boundary.{IsBoundary};
+ghost use Rattle.actor_turn.specs.Act.{whole};
 ghost use Rattle.actor_turn.specs.Side.{times_of};
 ghost use Rattle.actor_turn.specs.Ready.{IsReady};
-ghost use Rattle.due_pass.specs.Time.{whole, run_of};
+ghost use Rattle.due_pass.specs.Time.{run_of};
 
 use crate::link_pass::pass_due_links;
 use crate::part_pass::pass_due_parts;

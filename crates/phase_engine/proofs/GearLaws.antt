@@ -14,7 +14,8 @@ use Rattle.model_laws.specs.SideTimes.{half_of}
 use Rattle.port_rows.specs.declared.world.World.{World}
 use Rattle.port_rows.specs.Rows.{RowsView}
 use Rattle.actor_turn.specs.Side.{AreInOrder, times_of}
-use Rattle.due_pass.specs.Time.{run_of, whole}
+use Rattle.actor_turn.specs.Act.{whole}
+use Rattle.due_pass.specs.Time.{run_of}
 use Rattle.actor_turn.specs.Ready.{IsReady}
 use Rattle.actor_turn.specs.declared.gear.RowGear.{RowGear}
 use Rattle.actor_turn.specs.declared.side.SideGear.{SideGear}

@@ -1,24 +1,14 @@
 -- A run goes on from one time at which somebody is due to the next.
-use Rattle.std.proofs.Common.{◌≡◌, ℕ, ◌+◌, ◌-◌, ◌<◌, ◌≤◌, ◌⊎◌, inl, inr, List, [], ◌∷◌, ◌++◌, length, take, drop, zero, suc, sym, ◌∙◌, ap, subst, arith, refl}
-use Rattle.std.specs.Prelude.{Option, Some, None, Bool, All, option_map}
-use Rattle.std.proofs.Math.Seq.{take-append_seam}
-use Rattle.std.proofs.lemmas.List.{take-append-drop, append_assoc, append-nil}
-use Rattle.std.proofs.lemmas.List.Elements.{All-nil, All-append, All-map}
-use Rattle.std.proofs.lemmas.Grind.{flat_map-append}
+use Rattle.std.proofs.Common.{◌≡◌, ℕ, ◌+◌, ◌-◌, ◌<◌, ◌≤◌, ◌⊎◌, inl, inr, List, [], ◌∷◌, ◌++◌, length, zero, suc, sym, ◌∙◌, ap, subst, arith, refl}
+use Rattle.std.specs.Prelude.{Option, Some, None, Bool}
+use Rattle.std.proofs.lemmas.List.{append_assoc, append-nil}
 use Rattle.sim_base.specs.declared.time.Time.{Time}
-use Rattle.port_msg.specs.RecView.{records_at, record_of}
-use Rattle.port_msg.specs.declared.records.Record.{Record}
-use Rattle.sim_io.specs.Sink.{Rose, Got, GotPrefix}
+use Rattle.sim_io.specs.Sink.{Got, GotPrefix}
 use Rattle.event_queue.specs.NextTimes.{time_of}
-use Rattle.tick_law.specs.Machine.{Machine}
-use Rattle.tick_law.specs.Wires.{Wires}
 use Rattle.tick_law.specs.WorldPlaces.{WorldPlaces}
-use Rattle.tick_law.specs.Pass.{Side}
 use Rattle.tick_law.specs.Verdict.{awake_below}
-use Rattle.tick_law.specs.Outcomes.{outcome, whats_of, records_to}
-use Rattle.tick_law.specs.SerialLoop.{System, begun, pick, mid, world_at, parts_of, links_of, records_at_time, records_below, stirs_at, end_below}
+use Rattle.tick_law.specs.SerialLoop.{System, pick, records_at_time, records_below, stirs_at, end_below}
 use Rattle.model_laws.specs.Fitted.{IsSetUp}
-use Rattle.model_laws.proofs.BothCourses.{world_good}
 use Rattle.model_laws.proofs.NothingBeforeStart.{records_begin, awake_begin}
 use Rattle.model_laws.specs.Reached.{NoneBelow, Reached}
 use Rattle.model_laws.proofs.TimesPassedOver.{jump_to, end_more}
@@ -26,8 +16,8 @@ use Rattle.model_laws.specs.Boundary.{IsBoundary}
 use Rattle.model_laws.specs.SideTimes.{half_of, number_of}
 use Rattle.model_laws.proofs.SideTimesLaws.{half_at, length-half}
 use Rattle.trace_out.specs.Names.{NamesView}
-use Rattle.trace_out.specs.Lines.{text_of, lines_of}
-use Rattle.trace_out.proofs.Writing.{Got-more}
+use Rattle.trace_out.specs.Lines.{lines_of}
+use Rattle.run_gear.proofs.LineLaws.{lines_grow, prefix_grow}
 use Rattle.phase_engine.specs.RunGear.{IsDueBy}
 use Rattle.phase_engine.specs.Between.{records_over, records_between}
 
@@ -53,42 +43,7 @@ none_below first n e times none = record {
   none = λ i b at f. let c : i < n = omega (arith, b, length-half first n times) in later_than (time_of times (first + i)) e at (none (first + i)) (sym (half_at first n times i c) ∙ f);
 }
 
--- the lines of a prefix of a text's second part
-pub got_prefix : (old mid new : Option (List ℕ)) (a b : List ℕ) → Got old mid a → GotPrefix mid new b → GotPrefix old new (a ++ b)
-got_prefix old mid new a b p (k, q) =
-    let text = a ++ take k b in
-    let whole : a ++ b ≡ text ++ drop k b = ap (λ l. a ++ l) (sym (take-append-drop k b)) ∙ regroup a (take k b) (drop k b) in
-    (length text, subst (λ (bytes : List ℕ). Got old new bytes) (sym (ap (take (length text)) whole ∙ take-append_seam text (drop k b))) (Got-more old mid new a (take k b) p q))
-  where
-    regroup : (a b c : List ℕ) → a ++ (b ++ c) ≡ (a ++ b) ++ c
-    regroup a b c = simp append_assoc
-
--- no text more
-pub nothing_more : (told : Option (List ℕ)) → told ≡ option_map (λ held. held ++ []) told
-nothing_more None = refl
-nothing_more (Some bytes) = ap (λ l. Some l) (sym (append-nil bytes))
-
-pub rose_later : (before between after : ℕ) → before ≤ between → Rose between after → Rose before after
-rose_later before between after a b = grind arith
-
-actors_in : {S : Type 0} (m : Machine S) (w : Wires) (stepped : ℕ → Bool) (t : ℕ) (h : Side S) (base n most : ℕ) → base + n ≤ most → All (λ (x : Record). x.actor.0 < most) (records_to m w stepped t h base n)
-actors_in m w stepped t h base zero most b = All-nil (λ (x : Record). x.actor.0 < most)
-actors_in m w stepped t h base (suc n) most b =
-    All-append (λ (x : Record). x.actor.0 < most) (records_to m w stepped t h base n) (records_at t (base + n) (whats_of (outcome m w stepped t h n)))
-    (actors_in m w stepped t h base n most (omega arith))
-    (All-map (λ (x : Record). x.actor.0 < most) (record_of t (base + n)) (whats_of (outcome m w stepped t h n)) (λ k d l. (let z : base + n < most = omega arith in z)))
-
 module _ {P N : Type 0} where
-  -- each record of a time is of an actor that is there
-  pub known_actors : (r : System P N) (vp : P → Type 0) (vn : N → Type 0) (t most : ℕ) → IsSetUp r vp vn → t ≤ 501000000001 → most ≡ length r.start.world.parts + length r.start.world.links → All (λ (x : Record). x.actor.0 < most) (records_at_time r t)
-  known_actors r vp vn t most up l e =
-      let good = world_good r vp vn t up l in
-      let parts : length (world_at r t).parts ≡ length r.start.world.parts = good.part_count in
-      let links : length (mid r t).links ≡ length r.start.world.links = good.link_count in
-      All-append (λ (x : Record). x.actor.0 < most) _ _
-      (actors_in r.part r.part_wires (begun r.start.at t) t (parts_of (world_at r t)) 0 (length (world_at r t).parts) most (omega (arith, parts, e)))
-      (actors_in r.link r.link_wires (begun r.start.at t) t (links_of (mid r t)) (length r.start.world.parts) (length (mid r t).links) most (omega (arith, links, e)))
-
   -- from a boundary to the next time at which somebody is due
   pub to_due : (r : System P N) (vp : P → Type 0) (vn : N → Type 0) (d e : ℕ) (world : WorldPlaces P N) (times : List (Option Time)) (first n m : ℕ) → IsSetUp r vp vn → d ≤ e → e ≤ 500000000001 → (d < e → (i : ℕ) (t : Time) → time_of times i ≡ Some t → e ≤ t.0) → IsBoundary r d world (half_of first n times) (half_of n m times) → Reached r d e world (half_of first n times) (half_of n m times)
   to_due r vp vn d e world times first n m up l b none was =
@@ -133,16 +88,10 @@ module _ {P N : Type 0} where
 
   -- the lines of one time more
   pub lines_then : (r : System P N) (names : NamesView) (all : Bool) (d t : ℕ) (old mid new : Option (List ℕ)) → d ≤ t → Got old mid (lines_of names all (records_between r d t)) → Got mid new (lines_of names all (records_at_time r t)) → Got old new (lines_of names all (records_between r d (t + 1)))
-  lines_then r names all d t old mid new l p q =
-      subst (λ (bytes : List ℕ). Got old new bytes)
-      (sym (flat_map-append (text_of names all) (records_between r d t) (records_at_time r t)) ∙ ap (lines_of names all) (sym (between_more r d t l)))
-      (Got-more old mid new (lines_of names all (records_between r d t)) (lines_of names all (records_at_time r t)) p q)
+  lines_then r names all d t old mid new l p q = lines_grow names all (records_between r d t) (records_at_time r t) (records_between r d (t + 1)) old mid new (between_more r d t l) p q
 
   pub prefix_then : (r : System P N) (names : NamesView) (all : Bool) (d t : ℕ) (old mid new : Option (List ℕ)) → d ≤ t → Got old mid (lines_of names all (records_between r d t)) → GotPrefix mid new (lines_of names all (records_at_time r t)) → GotPrefix old new (lines_of names all (records_between r d (t + 1)))
-  prefix_then r names all d t old mid new l p q =
-      subst (λ (bytes : List ℕ). GotPrefix old new bytes)
-      (sym (flat_map-append (text_of names all) (records_between r d t) (records_at_time r t)) ∙ ap (lines_of names all) (sym (between_more r d t l)))
-      (got_prefix old mid new (lines_of names all (records_between r d t)) (lines_of names all (records_at_time r t)) p q)
+  prefix_then r names all d t old mid new l p q = prefix_grow names all (records_between r d t) (records_at_time r t) (records_between r d (t + 1)) old mid new (between_more r d t l) p q
 
   pub end_then : (r : System P N) (t end new : ℕ) (flag : Bool) → new ≡ pick flag t end → flag ≡ stirs_at r t → end ≡ end_below r t → new ≡ end_below r (t + 1)
   end_then r t end new flag a b c = end_more r t (t + 1) end new flag a b c refl

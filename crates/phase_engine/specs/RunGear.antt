@@ -13,7 +13,7 @@ use Rattle.model_laws.specs.Boundary.{IsBoundary}
 use Rattle.model_laws.specs.NextTable.{IsTable}
 use Rattle.model_laws.specs.SideTimes.{half_of}
 use Rattle.port_rows.specs.declared.world.World.{World}
-use Rattle.due_pass.specs.Time.{whole}
+use Rattle.actor_turn.specs.Act.{whole}
 use Rattle.actor_turn.specs.Ready.{IsReady}
 use Rattle.actor_turn.specs.declared.gear.RowGear.{RowGear}
 

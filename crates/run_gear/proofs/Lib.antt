@@ -4,3 +4,4 @@ pub mod NameLaws
 pub mod Pigeons
 pub mod Setting
 pub mod Boundaries
+pub mod LineLaws

@@ -1,3 +1,4 @@
 pub mod FirstEdge
 pub mod IsAt
+pub mod Pass
 pub mod Woken

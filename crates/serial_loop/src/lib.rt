@@ -1,12 +1,10 @@
 //! The loop that ticks everything: every actor at every edge of its clock.
 #![tactic(auto)]
 
-mod act;
 mod edges;
 mod pass;
 mod run;
 mod serial;
-mod step;
 mod table;
 mod time;
 mod verdict;

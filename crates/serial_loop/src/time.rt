@@ -35,14 +35,7 @@ pub fn tick_time<P: Actor + Drop, N: Actor + Drop, C: Charter<P, N>, L: Ledger>(
     ensures steps { steps.new ≡ steps.old + edges_at (system_from P.machine N.machine C.plan C.start) t }
 {
     gear.recs.clear();
-    let a = pass_parts(
-        &mut world.parts,
-        &mut world.rows,
-        gear,
-        &mut next.parts,
-        t,
-        steps,
-    );
+    let parts = pass_parts(world, gear, &mut next.parts, t, steps);
     wake_changed(
         &mut world.rows,
         SideOf::Links,
@@ -50,14 +43,7 @@ pub fn tick_time<P: Actor + Drop, N: Actor + Drop, C: Charter<P, N>, L: Ledger>(
         t,
         &mut next.links,
     );
-    let b = pass_links(
-        &mut world.links,
-        &mut world.rows,
-        gear,
-        &mut next.links,
-        t,
-        steps,
-    );
+    let links = pass_links(world, gear, &mut next.links, t, steps);
     wake_changed(
         &mut world.rows,
         SideOf::Parts,
@@ -65,5 +51,5 @@ pub fn tick_time<P: Actor + Drop, N: Actor + Drop, C: Charter<P, N>, L: Ledger>(
         t + 1,
         &mut next.parts,
     );
-    either(a, b)
+    either(parts, links)
 }

@@ -1,39 +1,43 @@
-use Rattle.std.proofs.Common.{◌≡◌, length, subst, sym, ◌∙◌, ap, arith, refl}
-use Rattle.std.specs.Prelude.{false}
-use Rattle.tick_law.specs.Wires.{own_of, Has, AllApart}
-use Rattle.actor_turn.specs.declared.side.SideGear.{SideGear}
+use Rattle.std.proofs.Common.{length, subst, sym, ◌∙◌, ap, arith, refl}
+use Rattle.std.specs.Prelude.{false, slice_set}
+use Rattle.std.proofs.lemmas.List.{set-get_or}
+use Rattle.tick_law.specs.Wires.{Has, AllApart}
+use Rattle.actor_turn.specs.Act.{parts_acting}
 use Rattle.actor_turn.specs.Turn.{parts_in}
-use Rattle.actor_turn.specs.Waking.{CanWake}
 use Rattle.actor_turn.proofs.ActLaws.{read_at}
 use Rattle.actor_turn.proofs.TurnLaws.{can_act, can_wake_then, turned}
 use Rattle.actor_turn.proofs.turn.part_turn.Goals as goal
 
 pub act_part-flag-requires-clause-can : goal.act_part-flag-requires-clause-can
 act_part-flag-requires-clause-can g c =
-    can_act g.P.Actor.machine c.args.gear.now.parts c.args.gear.now.links c.args.no c.args.t (parts_in c.args.world.now c.args.gear.now c.args.steps.now) (own_of c.args.gear.now.parts.wiring c.args.no) c.begin.new.self c.requires.can refl c.begin.ensures
+    can_act g.P.Actor.machine c.args.gear.now.parts c.args.gear.now.links c.args.no c.args.t (parts_in c.args.world.now c.args.gear.now c.args.steps.now) c.requires.can
 
 pub wake_links-requires-clause-apart : goal.wake_links-requires-clause-apart
-wake_links-requires-clause-apart g c =
-    let own_is : c.own-own.result.now ≡ own_of c.args.gear.now.parts.wiring c.args.no = c.own-own.ensures ∙ ap (λ (s : SideGear). own_of s.wiring c.args.no) c.act_part-flag.ensures.stays.parts in
-    subst (λ l. AllApart l) (sym own_is) (c.requires.can.wired.apart c.args.no)
+wake_links-requires-clause-apart g c = subst (λ l. AllApart l) (sym c.own-own.ensures) (c.requires.can.wired.apart c.args.no)
 
 pub wake_links-requires-clause-within : goal.wake_links-requires-clause-within
-wake_links-requires-clause-within g c = λ q h. (
-    let own_is : c.own-own.result.now ≡ own_of c.args.gear.now.parts.wiring c.args.no = c.own-own.ensures ∙ ap (λ (s : SideGear). own_of s.wiring c.args.no) c.act_part-flag.ensures.stays.parts in
-    omega (arith, c.requires.can.wired.within c.args.no q (subst (λ l. Has l q) own_is h), c.act_part-flag.ensures.acted.long))
+wake_links-requires-clause-within g c = λ q h.
+    omega (arith, c.requires.can.wired.within c.args.no q (subst (λ l. Has l q) c.own-own.ensures h), c.act_part-flag.ensures.acted.long)
 
 pub wake_links-requires-clause-wakes : goal.wake_links-requires-clause-wakes
 wake_links-requires-clause-wakes g c =
-    let did = c.act_part-flag.ensures in
-    subst (λ (s : SideGear). CanWake s (length c.act_part-flag.new.world.rows.ports) c.note_next.new.next) (sym did.stays.links)
-    (can_wake_then g.P.Actor.machine c.args.gear.now.parts c.args.gear.now.links c.args.no c.args.t (parts_in c.args.world.now c.args.gear.now c.args.steps.now) (length c.act_part-flag.new.world.rows.ports) c.act_part-flag.new.gear.next c.note_next.new.next _ _ c.requires.can did.acted.long did.acted.next_stays c.note_next.ensures)
+    can_wake_then g.P.Actor.machine c.args.gear.now.parts c.args.gear.now.links c.args.no c.args.t (parts_in c.args.world.now c.args.gear.now c.args.steps.now) (length c.act_part-flag.new.world.rows.ports) c.note_next.new.next _ _ c.requires.can c.act_part-flag.ensures.acted.long c.note_next.ensures
 
 pub returns-clause-turned : goal.returns-clause-turned
 returns-clause-turned g c =
-    let did = c.act_part-flag.ensures in
-    let own_is : c.own-own.result.now ≡ own_of c.args.gear.now.parts.wiring c.args.no = c.own-own.ensures ∙ ap (λ (s : SideGear). own_of s.wiring c.args.no) did.stays.parts in
-    turned g.P.Actor.machine false c.args.gear.now.parts c.args.gear.now.links c.args.no c.args.t (parts_in c.args.world.now c.args.gear.now c.args.steps.now) (parts_in c.act_part-flag.new.world c.act_part-flag.new.gear c.act_part-flag.new.steps)
-    (own_of c.args.gear.now.parts.wiring c.args.no) c.own-own.result.now c.begin.new.self c.wake_links.new.rows c.note_next.new.next c.wake_links.new.next c.act_part-flag.result c.index-part.result.now c.requires.can
-    refl own_is c.begin.ensures did.acted
-    (read_at c.act_part-flag.new.world.parts.items c.args.no c.index-part.result.now (omega (arith, c.requires.can.here, did.acted.all_actors)) c.index-part.ensures)
-    c.note_next.ensures c.act_part-flag.new.gear.links did.stays.links c.wake_links.ensures
+    let act = c.act_part-flag in
+    let did = act.ensures.acted in
+    turned g.P.Actor.machine false c.args.gear.now.parts c.args.gear.now.links c.args.no c.args.t (parts_in c.args.world.now c.args.gear.now c.args.steps.now) (parts_acting act.new.world act.new.recs act.new.steps)
+    c.own-own.result.now c.wake_links.new.rows c.note_next.new.next c.wake_links.new.next act.result c.index-part.result.now
+    c.requires.can did c.own-own.ensures
+    (read_at act.new.world.parts.items c.args.no c.index-part.result.now (omega (arith, c.requires.can.here, did.all_actors)) c.index-part.ensures)
+    c.note_next.ensures c.wake_links.ensures
+
+pub returns-clause-stays : goal.returns-clause-stays
+returns-clause-stays g c = record {
+  parts = refl;
+  links = refl;
+  hands = ap (slice_set c.args.gear.now.hands.items c.args.no) (c.act_part-flag.ensures.hand ∙ c.index_mut-hand.ensures.value) ∙ set-get_or c.args.gear.now.hands.items c.args.no c.index_mut-hand.result.now;
+  part_due = refl;
+  link_due = refl;
+}

@@ -9,7 +9,8 @@ use Rattle.trace_out.specs.Lines.{lines_of}
 use Rattle.run_gear.specs.PlanNames.{names_of}
 use Rattle.phase_engine.specs.Between.{records_between}
 use Rattle.phase_engine.specs.RunGear.{places_of}
-use Rattle.phase_engine.proofs.RunLaws.{is_due, nothing_more, to_due, known_actors, records_jump, none_between, lines_then, prefix_then, end_then, rose_later}
+use Rattle.run_gear.proofs.LineLaws.{nothing_more, known_actors, rose_later}
+use Rattle.phase_engine.proofs.RunLaws.{is_due, to_due, records_jump, none_between, lines_then, prefix_then, end_then}
 use Rattle.phase_engine.proofs.run_lines.run_due.Goals as goal
 
 pub loop-t-init : goal.loop-t-init

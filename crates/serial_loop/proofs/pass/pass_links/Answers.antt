@@ -1,82 +1,58 @@
-use Rattle.std.proofs.Common.{◌≡◌, length, suc, refl, sym, ◌∙◌, ap, subst, arith, add-one}
+use Rattle.std.proofs.Common.{◌≡◌, ◌<◌, length, refl, sym, ◌∙◌, ap, subst, arith}
+use Rattle.std.specs.Prelude.{slice_get, slice_set}
 use Rattle.tick_law.specs.Laws.{Lawful}
-use Rattle.tick_law.specs.Wires.{own_of, Wired}
-use Rattle.tick_law.specs.WorldPlaces.{alls}
-use Rattle.tick_law.specs.Pass.{pass, everyone}
-use Rattle.model_laws.specs.Pass.{side_places, whole_side}
-use Rattle.model_laws.specs.Outcome.{firsts}
-use Rattle.model_laws.proofs.TurnByTurn.{room_left}
-use Rattle.actor_turn.specs.Turn.{side}
+use Rattle.model_laws.specs.NextTable.{next_at_place}
+use Rattle.actor_turn.specs.Next.{next_seat_of}
 use Rattle.actor_turn.specs.declared.side.SideGear.{SideGear}
-use Rattle.serial_loop.proofs.WithinLaws.{within}
-use Rattle.serial_loop.proofs.PassLaws.{HaveStepped, stepped_none, stepped_more, acted_as, all_stepped}
+use Rattle.actor_turn.specs.Act.{links_acting, CanAct, HasActed}
+use Rattle.serial_loop.proofs.PassLaws.{stays_none, in_pass_none, can_act, states_still, in_pass_more, in_pass_all}
+use Rattle.serial_loop.proofs.pass.pass_links.Given.{Over}
 use Rattle.serial_loop.proofs.pass.pass_links.Goals as goal
+
+lawful : (g : Over) → Lawful g.N.Actor.machine g.N.Actor.valid
+lawful g = record { framed = g.met.N.Actor.framed; stays = g.met.N.Actor.stays }
 
 pub loop-no-init : goal.loop-no-init
 loop-no-init g c = record {
-  stepped = stepped_none g.N.Actor.machine c.args.rows.now.wires c.args.t c.args.gear.now.links.first c.args.links.now c.args.rows.now.ports c.args.next.now c.args.gear.now.recs.items c.args.steps.now;
-  seen = refl;
-  wires = refl;
+  passed = in_pass_none g.N.Actor.machine c.args.gear.now.links c.args.t (links_acting c.args.world.now c.args.gear.now.recs c.args.steps.now) c.args.next.now;
   parts = refl;
-  links = refl;
-  hands = refl;
-  room = refl;
+  stays = stays_none c.args.gear.now;
 }
 
-pub step_link-flag-requires-clause-wired : goal.step_link-flag-requires-clause-wired
-step_link-flag-requires-clause-wired g c =
-    let m = g.N.Actor.machine in
-    let law : Lawful m g.N.Actor.valid = record { framed = g.met.N.Actor.framed; stays = g.met.N.Actor.stays } in
+pub act_link-flag-requires-clause-wires : goal.act_link-flag-requires-clause-wires
+act_link-flag-requires-clause-wires g c =
     let inv = c.loop-no.invariant in
-    let able = within m g.N.Actor.valid c.args.rows.now.wires (firsts everyone c.loop-no.no) c.args.t c.args.links.now c.loop-no.links c.args.rows.now.ports c.loop-no.rows.ports c.args.gear.now.recs.room c.args.gear.now.recs.room law c.requires.fits c.requires.sound (omega (arith, c.requires.time)) inv.stepped.places_are in
-    subst (λ x. Wired x (length c.loop-no.rows.ports)) (sym (inv.wires)) (subst (λ n. Wired (c.args.rows.now.wires) n) (sym able.long_ports) c.requires.fits.wired)
+    ap (λ (s : SideGear). s.wiring) inv.stays.links ∙ c.requires.wires ∙ sym inv.passed.wires
 
-pub step_link-flag-requires-clause-count : goal.step_link-flag-requires-clause-count
-step_link-flag-requires-clause-count g c s e =
-    let m = g.N.Actor.machine in
-    let law : Lawful m g.N.Actor.valid = record { framed = g.met.N.Actor.framed; stays = g.met.N.Actor.stays } in
+pub act_link-flag-requires-clause-can : goal.act_link-flag-requires-clause-can
+act_link-flag-requires-clause-can g c =
     let inv = c.loop-no.invariant in
-    let able = within m g.N.Actor.valid c.args.rows.now.wires (firsts everyone c.loop-no.no) c.args.t c.args.links.now c.loop-no.links c.args.rows.now.ports c.loop-no.rows.ports c.args.gear.now.recs.room c.args.gear.now.recs.room law c.requires.fits c.requires.sound (omega (arith, c.requires.time)) inv.stepped.places_are in
-    ap (λ x. length (own_of x c.loop-no.no)) (inv.wires) ∙ able.count c.loop-no.no s e
+    let now = links_acting c.loop-no.world c.loop-no.gear.recs c.loop-no.steps in
+    subst (λ (s : SideGear). CanAct g.N.Actor.machine s c.loop-no.no c.args.t now) (sym inv.stays.links)
+    (can_act g.N.Actor.machine g.N.Actor.valid c.args.gear.now.links c.args.t c.loop-no.no (links_acting c.args.world.now c.args.gear.now.recs c.args.steps.now) now c.args.next.now c.loop-no.next c.loop-no.stirred (lawful g) c.requires.can (omega (arith, c.loop-no-test.true)) inv.passed)
 
-pub step_link-flag-requires-clause-room : goal.step_link-flag-requires-clause-room
-step_link-flag-requires-clause-room g c =
-    let m = g.N.Actor.machine in
-    let law : Lawful m g.N.Actor.valid = record { framed = g.met.N.Actor.framed; stays = g.met.N.Actor.stays } in
-    let inv = c.loop-no.invariant in
-    let left = room_left m g.N.Actor.valid c.args.rows.now.wires everyone c.args.t c.args.gear.now.links.first c.loop-no.no c.args.gear.now.recs.room (side c.args.links.now c.args.rows.now.ports) c.args.gear.now.recs.items c.loop-no.gear.recs.items law c.requires.fits.wired c.requires.sound (omega (arith, c.loop-no-test.true)) inv.stepped.records_are c.requires.enough in
-    omega (arith, left, inv.room, ap (λ x. length (own_of x c.loop-no.no)) (inv.wires))
+pub note_next-requires-clause-here : goal.note_next-requires-clause-here
+note_next-requires-clause-here g c =
+    omega (arith, c.loop-no-test.true, c.act_link-flag.ensures.acted.all_actors, states_still g.N.Actor.machine c.args.gear.now.links c.args.t c.loop-no.no (links_acting c.args.world.now c.args.gear.now.recs c.args.steps.now) (links_acting c.loop-no.world c.loop-no.gear.recs c.loop-no.steps) c.args.next.now c.loop-no.next c.loop-no.stirred c.loop-no.invariant.passed, ap length c.deref.ensures.value)
 
 pub loop-no-preserved : goal.loop-no-preserved
 loop-no-preserved g c =
     let m = g.N.Actor.machine in
-    let law : Lawful m g.N.Actor.valid = record { framed = g.met.N.Actor.framed; stays = g.met.N.Actor.stays } in
     let inv = c.loop-no.invariant in
     let n = c.loop-no.no in
-    let w = c.args.rows.now.wires in
-    let base = c.args.gear.now.links.first in
-    let h = side c.args.links.now c.args.rows.now.ports in
-    let e = c.step_link-flag.ensures in
-    let new = c.step_link-flag.new in
-    let did = acted_as m w c.loop-no.rows.wires c.args.t base c.loop-no.gear.links.first n c.loop-no.links new.links c.loop-no.rows.ports new.rows.ports c.loop-no.next c.note_next.new.next c.loop-no.gear.recs.items new.gear.recs.items c.loop-no.stirred c.step_link-flag.result c.either-stirred.result c.loop-no.steps new.steps
-    (inv.wires) (ap (λ (x : SideGear). x.first) inv.links)
-    (record { acted = e.side_places; same = e.same; items_are = e.records; turned_is = e.flag; flag_is = c.either-stirred.ensures; steps_are = e.steps; next_is = c.note_next.ensures }) in
-    let more : HaveStepped m w c.args.t base (suc n) h c.args.next.now new.links new.rows.ports c.note_next.new.next c.args.gear.now.recs.items new.gear.recs.items c.either-stirred.result c.args.steps.now new.steps =
-    stepped_more m g.N.Actor.valid w c.args.t base n h c.args.next.now c.loop-no.links new.links c.loop-no.rows.ports new.rows.ports c.loop-no.next c.note_next.new.next c.args.gear.now.recs.items c.loop-no.gear.recs.items new.gear.recs.items c.loop-no.stirred c.step_link-flag.result c.either-stirred.result c.args.steps.now c.loop-no.steps new.steps law c.requires.fits.wired c.requires.sound c.requires.next (omega (arith, c.loop-no-test.true)) inv.stepped did in
+    let act = c.act_link-flag in
+    let now = links_acting c.loop-no.world c.loop-no.gear.recs c.loop-no.steps in
+    let new = links_acting act.new.world act.new.recs act.new.steps in
+    let did = subst (λ (s : SideGear). HasActed m s n c.args.t now new act.result) inv.stays.links act.ensures.acted in
     record {
-      stepped = subst (λ k. HaveStepped m w c.args.t base k h c.args.next.now new.links new.rows.ports c.note_next.new.next c.args.gear.now.recs.items new.gear.recs.items c.either-stirred.result c.args.steps.now new.steps) (sym (add-one n)) more;
-      seen = e.seen ∙ inv.seen;
-      wires = e.wires ∙ inv.wires;
-      parts = e.parts ∙ inv.parts;
-      links = e.links ∙ inv.links;
-      hands = e.hands ∙ inv.hands;
-      room = e.room ∙ inv.room;
+      passed = in_pass_more m g.N.Actor.valid c.args.gear.now.links c.args.t n (links_acting c.args.world.now c.args.gear.now.recs c.args.steps.now) now new c.args.next.now c.loop-no.next c.note_next.new.next c.loop-no.stirred act.result c.either-stirred.result (lawful g) c.requires.can (omega (arith, c.loop-no-test.true)) inv.passed did c.either-stirred.ensures
+          (c.note_next.ensures ∙ ap (λ l. slice_set c.loop-no.next n (next_seat_of m c.args.t act.result (next_at_place c.loop-no.next n) (slice_get l n))) c.deref.ensures.value);
+      parts = act.ensures.parts ∙ inv.parts;
+      stays = record { parts = inv.stays.parts; links = inv.stays.links; hands = inv.stays.hands };
     }
 
-pub returns-clause-side_places : goal.returns-clause-side_places
-returns-clause-side_places g c =
-    let m = g.N.Actor.machine in
-    let h = side c.args.links.now c.args.rows.now.ports in
-    let end : c.loop-no.no ≡ length c.args.links.now = omega (arith, c.loop-no-test.false, c.loop-no.auto.no-end) in
-    all_stepped m c.args.rows.now.wires c.args.t h c.loop-no.links c.loop-no.rows.ports c.requires.fits.owned
-    (subst (λ k. side_places (alls c.loop-no.links) (alls c.loop-no.rows.ports) ≡ whole_side (pass m (c.args.rows.now.wires) (firsts everyone k) c.args.t h)) end c.loop-no.invariant.stepped.places_are)
+pub returns-clause-passed : goal.returns-clause-passed
+returns-clause-passed g c =
+    let old = links_acting c.args.world.now c.args.gear.now.recs c.args.steps.now in
+    let now = links_acting c.loop-no.world c.loop-no.gear.recs c.loop-no.steps in
+    in_pass_all g.N.Actor.machine g.N.Actor.valid c.args.gear.now.links c.args.t c.loop-no.no old now c.args.next.now c.loop-no.next c.loop-no.stirred c.requires.can (omega (arith, c.loop-no-test.false, c.loop-no.auto.no-end)) c.loop-no.invariant.passed

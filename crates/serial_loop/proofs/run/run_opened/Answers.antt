@@ -15,7 +15,8 @@ use Rattle.port_rows.specs.World.{state_of}
 use Rattle.run_gear.specs.IsGear.{IsGear}
 use Rattle.run_gear.specs.PlanNames.{names_of}
 use Rattle.serial_loop.proofs.EdgeLaws.{pass_over, edges_more}
-use Rattle.serial_loop.proofs.RunLaws.{nothing_more, state_is, verdict_is, known_actors, lines_then, prefix_then}
+use Rattle.run_gear.proofs.LineLaws.{nothing_more, known_actors}
+use Rattle.serial_loop.proofs.RunLaws.{state_is, verdict_is, lines_then, prefix_then}
 use Rattle.serial_loop.proofs.run.run_opened.Goals as goal
 
 pub loop-t-init : goal.loop-t-init

@@ -1,789 +1,151 @@
-use Rattle.std.proofs.Common.{◌≡◌, ◌+◌, [], length, map, refl, sym, ◌∙◌, ap, subst, arith}
-use Rattle.std.specs.Prelude.{true, false}
-use Rattle.std.specs.Vec.{with_items}
-use Rattle.std.proofs.lemmas.List.{length-map, with_items_is}
+use Rattle.std.proofs.Common.{◌≡◌, ◌+◌, ◌++◌, length, map, sym, ◌∙◌, ap, subst, refl, rules}
+use Rattle.std.specs.Prelude.{◌||◌}
 use Rattle.port_msg.specs.RecView.{RecView}
 use Rattle.tick_law.specs.PlanView.{part_wires, link_wires, system_from}
-use Rattle.model_laws.specs.Outcome.{own_to}
-use Rattle.model_laws.specs.WellFormed.{HasRoom, IsSound}
-use Rattle.model_laws.specs.Fitted.{Wakes}
+use Rattle.tick_law.specs.SerialLoop.{System, records_at_time, stirs_at, edges_at}
 use Rattle.model_laws.specs.Boundary.{IsBoundary}
+use Rattle.model_laws.specs.Fitted.{Fitted}
 use Rattle.port_row.specs.Row.{face_of}
 use Rattle.port_rows.specs.Rows.{RowsView}
 use Rattle.port_rows.specs.Opening.{AreLong}
-use Rattle.actor_turn.specs.Turn.{side}
+use Rattle.actor_turn.specs.Act.{whole, parts_acting, links_acting}
 use Rattle.actor_turn.specs.declared.side.SideGear.{SideGear}
-use Rattle.serial_loop.proofs.TimeLaws.{whole, PassDone, PartsDone, pass_as, long_after, woke_as, first_can, second_can, time_done}
+use Rattle.run_gear.specs.declared.gear.Gear.{Gear}
+use Rattle.run_gear.proofs.Boundaries.{system_wired}
+use Rattle.serial_loop.specs.Pass.{CanPass, HasPassed}
+use Rattle.serial_loop.specs.IsAt.{IsAt}
+use Rattle.serial_loop.proofs.TimeLaws.{CanTick, PartsTicked, LinksTicked, IsTicked, CanBegin, CanBeWoken, can_tick, can_be_woken, parts_begin, links_begin, then_settled, with_rows, time_ticked, run_ticked, is_gear_still}
+use Rattle.serial_loop.proofs.time.tick_time.Given.{Over}
 use Rattle.serial_loop.proofs.time.tick_time.Goals as goal
+use Rattle.serial_loop.proofs.time.tick_time.Goals.{After-clear, After-wake_changed-arg-3-1, After-wake_changed, After-wake_changed-arg-6-1, After-wake_changed-2}
 
-pub pass_parts-a-requires-clause-hands : goal.pass_parts-a-requires-clause-hands
-pass_parts-a-requires-clause-hands g c =
-    let mp = g.P.Actor.machine in
-    let mn = g.N.Actor.machine in
-    let plan = g.C.Charter.plan in
-    let start = g.C.Charter.start in
-    let r = system_from mp mn plan start in
-    let x = c.args in
-    let gear = x.gear.now in
-    let ports = x.world.now.rows.ports in
-    let is = c.requires.gear in
-    let at = c.requires.at in
-    let parts = c.deref_mut.result.now in
-    let pn = x.next.now.parts in
-    let ln = x.next.now.links in
-    let pp = gear.parts.periods.items in
-    let lp = gear.links.periods.items in
-    let room = gear.recs.room in
-    let cleared : c.clear.new.self.room ≡ room = ap (λ (q : RecView). q.room) c.clear.ensures in
-    let none : c.clear.new.self.items ≡ [] = ap (λ (q : RecView). q.items) c.clear.ensures in
-    let was : IsBoundary r x.t (whole parts x.world.now.links.items ports) pn ln = subst (λ l. IsBoundary r x.t (whole l x.world.now.links.items ports) pn ln) (sym c.deref_mut.ensures.value) at.boundary in
-    let able = first_can r g.P.Actor.valid g.N.Actor.valid room x.t pp lp parts x.world.now.links.items ports pn ln is.fitted was c.requires.time is.enough in
-    subst (λ w. AreLong gear.hands.items w (length parts)) (sym is.part_wires_are) (subst (λ n. AreLong gear.hands.items (part_wires plan) n) (sym was.parts_are.long ∙ able.long) is.hands_are)
+-- the gear whose records are cleared
+abbrev cleared : Gear → RecView → Gear
+cleared g recs = record g { recs = recs }
 
-pub pass_parts-a-requires-clause-fits : goal.pass_parts-a-requires-clause-fits
-pass_parts-a-requires-clause-fits g c =
-    let mp = g.P.Actor.machine in
-    let mn = g.N.Actor.machine in
-    let plan = g.C.Charter.plan in
-    let start = g.C.Charter.start in
-    let r = system_from mp mn plan start in
-    let x = c.args in
-    let gear = x.gear.now in
-    let ports = x.world.now.rows.ports in
-    let is = c.requires.gear in
-    let at = c.requires.at in
-    let parts = c.deref_mut.result.now in
-    let pn = x.next.now.parts in
-    let ln = x.next.now.links in
-    let pp = gear.parts.periods.items in
-    let lp = gear.links.periods.items in
-    let room = gear.recs.room in
-    let cleared : c.clear.new.self.room ≡ room = ap (λ (q : RecView). q.room) c.clear.ensures in
-    let none : c.clear.new.self.items ≡ [] = ap (λ (q : RecView). q.items) c.clear.ensures in
-    let was : IsBoundary r x.t (whole parts x.world.now.links.items ports) pn ln = subst (λ l. IsBoundary r x.t (whole l x.world.now.links.items ports) pn ln) (sym c.deref_mut.ensures.value) at.boundary in
-    let able = first_can r g.P.Actor.valid g.N.Actor.valid room x.t pp lp parts x.world.now.links.items ports pn ln is.fitted was c.requires.time is.enough in
-    subst (λ w. HasRoom g.row.P.Denot mp w (side parts ports) c.clear.new.self.room c.clear.new.self.room) (sym is.part_wires_are) (subst (λ n. HasRoom g.row.P.Denot mp (part_wires plan) (side parts ports) n n) (sym cleared) able.fits)
+-- the pass of the parts can begin
+first : (g : Over) (c : After-clear g) → CanBegin g.P.Actor.machine g.P.Actor.valid c.args.gear.now.parts c.args.gear.now.links c.args.t (parts_acting c.args.world.now c.clear.new.self c.args.steps.now) c.args.next.now.parts c.args.next.now.links
+first g c =
+    parts_begin g.P.Actor.machine g.N.Actor.machine g.P.Actor.valid g.N.Actor.valid g.C.Charter.start c.args.t c.args.steps.now c.args.world.now (cleared c.args.gear.now c.clear.new.self) c.args.next.now.parts c.args.next.now.links
+    (can_tick g.P.Actor.machine g.N.Actor.machine g.P.Actor.valid g.N.Actor.valid g.C.Charter.plan g.C.Charter.start c.args.t c.args.world.now c.args.gear.now c.clear.new.self c.args.next.now c.requires.gear c.requires.at c.requires.time c.clear.ensures (cleared c.args.gear.now c.clear.new.self) refl refl refl)
 
-pub pass_parts-a-requires-clause-sound : goal.pass_parts-a-requires-clause-sound
-pass_parts-a-requires-clause-sound g c =
-    let mp = g.P.Actor.machine in
-    let mn = g.N.Actor.machine in
-    let plan = g.C.Charter.plan in
-    let start = g.C.Charter.start in
-    let r = system_from mp mn plan start in
-    let x = c.args in
-    let gear = x.gear.now in
-    let ports = x.world.now.rows.ports in
-    let is = c.requires.gear in
-    let at = c.requires.at in
-    let parts = c.deref_mut.result.now in
-    let pn = x.next.now.parts in
-    let ln = x.next.now.links in
-    let pp = gear.parts.periods.items in
-    let lp = gear.links.periods.items in
-    let room = gear.recs.room in
-    let cleared : c.clear.new.self.room ≡ room = ap (λ (q : RecView). q.room) c.clear.ensures in
-    let none : c.clear.new.self.items ≡ [] = ap (λ (q : RecView). q.items) c.clear.ensures in
-    let was : IsBoundary r x.t (whole parts x.world.now.links.items ports) pn ln = subst (λ l. IsBoundary r x.t (whole l x.world.now.links.items ports) pn ln) (sym c.deref_mut.ensures.value) at.boundary in
-    let able = first_can r g.P.Actor.valid g.N.Actor.valid room x.t pp lp parts x.world.now.links.items ports pn ln is.fitted was c.requires.time is.enough in
-    subst (λ w. IsSound mp g.P.Actor.valid w (side parts ports)) (sym is.part_wires_are) able.sound
+-- links can be woken then
+first_woken : (g : Over) (c : After-wake_changed-arg-3-1 g) → CanBeWoken c.pass_parts-parts.new.gear.links c.pass_parts-parts.new.world.rows c.args.next.now.links
+first_woken g c =
+    can_be_woken g.P.Actor.machine g.P.Actor.valid c.args.gear.now.parts c.args.gear.now.links c.pass_parts-parts.new.gear.links c.args.t (parts_acting c.args.world.now c.clear.new.self c.args.steps.now) (parts_acting c.pass_parts-parts.new.world c.pass_parts-parts.new.gear.recs c.pass_parts-parts.new.steps) c.args.next.now.parts c.pass_parts-parts.new.next c.args.next.now.links c.pass_parts-parts.result
+    (parts_begin g.P.Actor.machine g.N.Actor.machine g.P.Actor.valid g.N.Actor.valid g.C.Charter.start c.args.t c.args.steps.now c.args.world.now (cleared c.args.gear.now c.clear.new.self) c.args.next.now.parts c.args.next.now.links
+    (can_tick g.P.Actor.machine g.N.Actor.machine g.P.Actor.valid g.N.Actor.valid g.C.Charter.plan g.C.Charter.start c.args.t c.args.world.now c.args.gear.now c.clear.new.self c.args.next.now c.requires.gear c.requires.at c.requires.time c.clear.ensures (cleared c.args.gear.now c.clear.new.self) refl refl refl))
+    c.pass_parts-parts.ensures.passed c.requires.at.settled c.pass_parts-parts.ensures.stays.links
 
-pub pass_parts-a-requires-clause-next : goal.pass_parts-a-requires-clause-next
-pass_parts-a-requires-clause-next g c =
-    let mp = g.P.Actor.machine in
-    let mn = g.N.Actor.machine in
-    let plan = g.C.Charter.plan in
-    let start = g.C.Charter.start in
-    let r = system_from mp mn plan start in
-    let x = c.args in
-    let gear = x.gear.now in
-    let ports = x.world.now.rows.ports in
-    let is = c.requires.gear in
-    let at = c.requires.at in
-    let parts = c.deref_mut.result.now in
-    let pn = x.next.now.parts in
-    let ln = x.next.now.links in
-    let pp = gear.parts.periods.items in
-    let lp = gear.links.periods.items in
-    let room = gear.recs.room in
-    let cleared : c.clear.new.self.room ≡ room = ap (λ (q : RecView). q.room) c.clear.ensures in
-    let none : c.clear.new.self.items ≡ [] = ap (λ (q : RecView). q.items) c.clear.ensures in
-    let was : IsBoundary r x.t (whole parts x.world.now.links.items ports) pn ln = subst (λ l. IsBoundary r x.t (whole l x.world.now.links.items ports) pn ln) (sym c.deref_mut.ensures.value) at.boundary in
-    let able = first_can r g.P.Actor.valid g.N.Actor.valid room x.t pp lp parts x.world.now.links.items ports pn ln is.fitted was c.requires.time is.enough in
-    able.long
-
-pub pass_parts-a-requires-clause-few : goal.pass_parts-a-requires-clause-few
-pass_parts-a-requires-clause-few g c =
-    let mp = g.P.Actor.machine in
-    let mn = g.N.Actor.machine in
-    let plan = g.C.Charter.plan in
-    let start = g.C.Charter.start in
-    let r = system_from mp mn plan start in
-    let x = c.args in
-    let gear = x.gear.now in
-    let ports = x.world.now.rows.ports in
-    let is = c.requires.gear in
-    let at = c.requires.at in
-    let parts = c.deref_mut.result.now in
-    let pn = x.next.now.parts in
-    let ln = x.next.now.links in
-    let pp = gear.parts.periods.items in
-    let lp = gear.links.periods.items in
-    let room = gear.recs.room in
-    let cleared : c.clear.new.self.room ≡ room = ap (λ (q : RecView). q.room) c.clear.ensures in
-    let none : c.clear.new.self.items ≡ [] = ap (λ (q : RecView). q.items) c.clear.ensures in
-    let was : IsBoundary r x.t (whole parts x.world.now.links.items ports) pn ln = subst (λ l. IsBoundary r x.t (whole l x.world.now.links.items ports) pn ln) (sym c.deref_mut.ensures.value) at.boundary in
-    let able = first_can r g.P.Actor.valid g.N.Actor.valid room x.t pp lp parts x.world.now.links.items ports pn ln is.fitted was c.requires.time is.enough in
-    let f = able.few in omega (arith, f, is.order.start)
-
-pub pass_parts-a-requires-clause-enough : goal.pass_parts-a-requires-clause-enough
-pass_parts-a-requires-clause-enough g c =
-    let mp = g.P.Actor.machine in
-    let mn = g.N.Actor.machine in
-    let plan = g.C.Charter.plan in
-    let start = g.C.Charter.start in
-    let r = system_from mp mn plan start in
-    let x = c.args in
-    let gear = x.gear.now in
-    let ports = x.world.now.rows.ports in
-    let is = c.requires.gear in
-    let at = c.requires.at in
-    let parts = c.deref_mut.result.now in
-    let pn = x.next.now.parts in
-    let ln = x.next.now.links in
-    let pp = gear.parts.periods.items in
-    let lp = gear.links.periods.items in
-    let room = gear.recs.room in
-    let cleared : c.clear.new.self.room ≡ room = ap (λ (q : RecView). q.room) c.clear.ensures in
-    let none : c.clear.new.self.items ≡ [] = ap (λ (q : RecView). q.items) c.clear.ensures in
-    let was : IsBoundary r x.t (whole parts x.world.now.links.items ports) pn ln = subst (λ l. IsBoundary r x.t (whole l x.world.now.links.items ports) pn ln) (sym c.deref_mut.ensures.value) at.boundary in
-    let able = first_can r g.P.Actor.valid g.N.Actor.valid room x.t pp lp parts x.world.now.links.items ports pn ln is.fitted was c.requires.time is.enough in
-    let e = able.enough in omega (arith, e, cleared, ap length none, ap (λ w. own_to w (length parts)) is.part_wires_are)
-
-pub wake_changed-requires-clause-wakes : goal.wake_changed-requires-clause-wakes
-wake_changed-requires-clause-wakes g c =
-    let mp = g.P.Actor.machine in
-    let mn = g.N.Actor.machine in
-    let plan = g.C.Charter.plan in
-    let start = g.C.Charter.start in
-    let r = system_from mp mn plan start in
-    let x = c.args in
-    let gear = x.gear.now in
-    let ports = x.world.now.rows.ports in
-    let is = c.requires.gear in
-    let at = c.requires.at in
-    let parts = c.deref_mut.result.now in
-    let pn = x.next.now.parts in
-    let ln = x.next.now.links in
-    let pp = gear.parts.periods.items in
-    let lp = gear.links.periods.items in
-    let room = gear.recs.room in
-    let cleared : c.clear.new.self.room ≡ room = ap (λ (q : RecView). q.room) c.clear.ensures in
-    let none : c.clear.new.self.items ≡ [] = ap (λ (q : RecView). q.items) c.clear.ensures in
-    let was : IsBoundary r x.t (whole parts x.world.now.links.items ports) pn ln = subst (λ l. IsBoundary r x.t (whole l x.world.now.links.items ports) pn ln) (sym c.deref_mut.ensures.value) at.boundary in
-    let able = first_can r g.P.Actor.valid g.N.Actor.valid room x.t pp lp parts x.world.now.links.items ports pn ln is.fitted was c.requires.time is.enough in
-    let a = c.pass_parts-a in
-    let long = long_after mp gear.parts.wiring x.t parts a.new.parts ports a.new.rows.ports a.ensures.side_places in
-    subst (λ (s : SideGear). Wakes s.wiring (length a.new.rows.ports) s.periods.items ln) (sym a.ensures.links) (subst (λ w. Wakes w (length a.new.rows.ports) lp ln) (sym is.link_wires_are) (subst (λ n. Wakes (link_wires plan) n lp ln) (sym long.1) able.wakes))
-
-pub wake_changed-requires-clause-few : goal.wake_changed-requires-clause-few
-wake_changed-requires-clause-few g c =
-    let mp = g.P.Actor.machine in
-    let mn = g.N.Actor.machine in
-    let plan = g.C.Charter.plan in
-    let start = g.C.Charter.start in
-    let r = system_from mp mn plan start in
-    let x = c.args in
-    let gear = x.gear.now in
-    let ports = x.world.now.rows.ports in
-    let is = c.requires.gear in
-    let at = c.requires.at in
-    let parts = c.deref_mut.result.now in
-    let pn = x.next.now.parts in
-    let ln = x.next.now.links in
-    let pp = gear.parts.periods.items in
-    let lp = gear.links.periods.items in
-    let room = gear.recs.room in
-    let cleared : c.clear.new.self.room ≡ room = ap (λ (q : RecView). q.room) c.clear.ensures in
-    let none : c.clear.new.self.items ≡ [] = ap (λ (q : RecView). q.items) c.clear.ensures in
-    let was : IsBoundary r x.t (whole parts x.world.now.links.items ports) pn ln = subst (λ l. IsBoundary r x.t (whole l x.world.now.links.items ports) pn ln) (sym c.deref_mut.ensures.value) at.boundary in
-    let able = first_can r g.P.Actor.valid g.N.Actor.valid room x.t pp lp parts x.world.now.links.items ports pn ln is.fitted was c.requires.time is.enough in
-    let a = c.pass_parts-a in
-    let long = long_after mp gear.parts.wiring x.t parts a.new.parts ports a.new.rows.ports a.ensures.side_places in
-    let f = able.few_ports in omega (arith, f, long.1)
-
-pub wake_changed-requires-clause-seen : goal.wake_changed-requires-clause-seen
-wake_changed-requires-clause-seen g c =
-    let mp = g.P.Actor.machine in
-    let mn = g.N.Actor.machine in
-    let plan = g.C.Charter.plan in
-    let start = g.C.Charter.start in
-    let r = system_from mp mn plan start in
-    let x = c.args in
-    let gear = x.gear.now in
-    let ports = x.world.now.rows.ports in
-    let is = c.requires.gear in
-    let at = c.requires.at in
-    let parts = c.deref_mut.result.now in
-    let pn = x.next.now.parts in
-    let ln = x.next.now.links in
-    let pp = gear.parts.periods.items in
-    let lp = gear.links.periods.items in
-    let room = gear.recs.room in
-    let cleared : c.clear.new.self.room ≡ room = ap (λ (q : RecView). q.room) c.clear.ensures in
-    let none : c.clear.new.self.items ≡ [] = ap (λ (q : RecView). q.items) c.clear.ensures in
-    let was : IsBoundary r x.t (whole parts x.world.now.links.items ports) pn ln = subst (λ l. IsBoundary r x.t (whole l x.world.now.links.items ports) pn ln) (sym c.deref_mut.ensures.value) at.boundary in
-    let able = first_can r g.P.Actor.valid g.N.Actor.valid room x.t pp lp parts x.world.now.links.items ports pn ln is.fitted was c.requires.time is.enough in
-    let a = c.pass_parts-a in
-    let long = long_after mp gear.parts.wiring x.t parts a.new.parts ports a.new.rows.ports a.ensures.side_places in
-    ap length a.ensures.seen ∙ ap length at.settled ∙ length-map ports face_of ∙ sym long.1
-
-pub pass_links-b-requires-clause-fits : goal.pass_links-b-requires-clause-fits
-pass_links-b-requires-clause-fits g c =
-    let mp = g.P.Actor.machine in
-    let mn = g.N.Actor.machine in
-    let plan = g.C.Charter.plan in
-    let start = g.C.Charter.start in
-    let r = system_from mp mn plan start in
-    let x = c.args in
-    let gear = x.gear.now in
-    let ports = x.world.now.rows.ports in
-    let is = c.requires.gear in
-    let at = c.requires.at in
-    let parts = c.deref_mut.result.now in
-    let pn = x.next.now.parts in
-    let ln = x.next.now.links in
-    let pp = gear.parts.periods.items in
-    let lp = gear.links.periods.items in
-    let room = gear.recs.room in
-    let cleared : c.clear.new.self.room ≡ room = ap (λ (q : RecView). q.room) c.clear.ensures in
-    let none : c.clear.new.self.items ≡ [] = ap (λ (q : RecView). q.items) c.clear.ensures in
-    let was : IsBoundary r x.t (whole parts x.world.now.links.items ports) pn ln = subst (λ l. IsBoundary r x.t (whole l x.world.now.links.items ports) pn ln) (sym c.deref_mut.ensures.value) at.boundary in
-    let able = first_can r g.P.Actor.valid g.N.Actor.valid room x.t pp lp parts x.world.now.links.items ports pn ln is.fitted was c.requires.time is.enough in
-    let a = c.pass_parts-a in
-    let long = long_after mp gear.parts.wiring x.t parts a.new.parts ports a.new.rows.ports a.ensures.side_places in
-    let k = c.wake_changed in
-    let links = c.deref_mut-2.result.now in
-    let ports1 = k.new.rows.ports in
-    let was2 : IsBoundary r x.t (whole parts links ports) pn ln = subst (λ l. IsBoundary r x.t (whole parts l ports) pn ln) (sym c.deref_mut-2.ensures.value) was in
-    let ports_are : ports1 ≡ a.new.rows.ports = ap (λ (v : RowsView). v.ports) k.ensures.settled in
-    let wires : k.new.rows.wires ≡ link_wires plan = ap (λ (v : RowsView). v.wires) k.ensures.settled ∙ a.ensures.wires ∙ at.wires in
-    let room_is : a.new.gear.recs.room ≡ room = a.ensures.room ∙ cleared in
-    let did : PartsDone r x.t lp parts a.new.parts ports ports1 pn a.new.next ln k.new.next a.new.gear.recs.items a.result x.steps.now a.new.steps = record {
-      done = subst (λ l. PassDone mp (part_wires plan) x.t 0 parts a.new.parts ports l pn a.new.next [] a.new.gear.recs.items a.result x.steps.now a.new.steps) (sym ports_are)
-          (pass_as mp (part_wires plan) gear.parts.wiring x.t 0 gear.parts.first parts a.new.parts ports a.new.rows.ports pn a.new.next c.clear.new.self.items [] a.new.gear.recs.items a.result x.steps.now a.new.steps is.part_wires_are is.order.start none
-          (record { places = a.ensures.side_places; own = a.ensures.next; records_are = a.ensures.records; flag_is = a.ensures.flag; steps_are = a.ensures.steps }));
-      woke = woke_as false gear.links a.new.gear.links (link_wires plan) ports ports1 a.new.rows x.t ln k.new.next a.ensures.links is.link_wires_are ports_are able.wakes.wired (a.ensures.seen ∙ at.settled) k.ensures.woken;
-    } in
-    let able2 = second_can r g.P.Actor.valid g.N.Actor.valid room x.t pp lp parts a.new.parts links ports ports1 pn a.new.next ln k.new.next a.new.gear.recs.items a.result x.steps.now a.new.steps is.fitted was2 c.requires.time is.enough did in
-    subst (λ w. HasRoom g.row.N.Denot mn w (side links ports1) a.new.gear.recs.room a.new.gear.recs.room) (sym wires) (subst (λ n. HasRoom g.row.N.Denot mn (link_wires plan) (side links ports1) n n) (sym room_is) able2.fits)
-
-pub pass_links-b-requires-clause-sound : goal.pass_links-b-requires-clause-sound
-pass_links-b-requires-clause-sound g c =
-    let mp = g.P.Actor.machine in
-    let mn = g.N.Actor.machine in
-    let plan = g.C.Charter.plan in
-    let start = g.C.Charter.start in
-    let r = system_from mp mn plan start in
-    let x = c.args in
-    let gear = x.gear.now in
-    let ports = x.world.now.rows.ports in
-    let is = c.requires.gear in
-    let at = c.requires.at in
-    let parts = c.deref_mut.result.now in
-    let pn = x.next.now.parts in
-    let ln = x.next.now.links in
-    let pp = gear.parts.periods.items in
-    let lp = gear.links.periods.items in
-    let room = gear.recs.room in
-    let cleared : c.clear.new.self.room ≡ room = ap (λ (q : RecView). q.room) c.clear.ensures in
-    let none : c.clear.new.self.items ≡ [] = ap (λ (q : RecView). q.items) c.clear.ensures in
-    let was : IsBoundary r x.t (whole parts x.world.now.links.items ports) pn ln = subst (λ l. IsBoundary r x.t (whole l x.world.now.links.items ports) pn ln) (sym c.deref_mut.ensures.value) at.boundary in
-    let able = first_can r g.P.Actor.valid g.N.Actor.valid room x.t pp lp parts x.world.now.links.items ports pn ln is.fitted was c.requires.time is.enough in
-    let a = c.pass_parts-a in
-    let long = long_after mp gear.parts.wiring x.t parts a.new.parts ports a.new.rows.ports a.ensures.side_places in
-    let k = c.wake_changed in
-    let links = c.deref_mut-2.result.now in
-    let ports1 = k.new.rows.ports in
-    let was2 : IsBoundary r x.t (whole parts links ports) pn ln = subst (λ l. IsBoundary r x.t (whole parts l ports) pn ln) (sym c.deref_mut-2.ensures.value) was in
-    let ports_are : ports1 ≡ a.new.rows.ports = ap (λ (v : RowsView). v.ports) k.ensures.settled in
-    let wires : k.new.rows.wires ≡ link_wires plan = ap (λ (v : RowsView). v.wires) k.ensures.settled ∙ a.ensures.wires ∙ at.wires in
-    let room_is : a.new.gear.recs.room ≡ room = a.ensures.room ∙ cleared in
-    let did : PartsDone r x.t lp parts a.new.parts ports ports1 pn a.new.next ln k.new.next a.new.gear.recs.items a.result x.steps.now a.new.steps = record {
-      done = subst (λ l. PassDone mp (part_wires plan) x.t 0 parts a.new.parts ports l pn a.new.next [] a.new.gear.recs.items a.result x.steps.now a.new.steps) (sym ports_are)
-          (pass_as mp (part_wires plan) gear.parts.wiring x.t 0 gear.parts.first parts a.new.parts ports a.new.rows.ports pn a.new.next c.clear.new.self.items [] a.new.gear.recs.items a.result x.steps.now a.new.steps is.part_wires_are is.order.start none
-          (record { places = a.ensures.side_places; own = a.ensures.next; records_are = a.ensures.records; flag_is = a.ensures.flag; steps_are = a.ensures.steps }));
-      woke = woke_as false gear.links a.new.gear.links (link_wires plan) ports ports1 a.new.rows x.t ln k.new.next a.ensures.links is.link_wires_are ports_are able.wakes.wired (a.ensures.seen ∙ at.settled) k.ensures.woken;
-    } in
-    let able2 = second_can r g.P.Actor.valid g.N.Actor.valid room x.t pp lp parts a.new.parts links ports ports1 pn a.new.next ln k.new.next a.new.gear.recs.items a.result x.steps.now a.new.steps is.fitted was2 c.requires.time is.enough did in
-    subst (λ w. IsSound mn g.N.Actor.valid w (side links ports1)) (sym wires) able2.sound
-
-pub pass_links-b-requires-clause-next : goal.pass_links-b-requires-clause-next
-pass_links-b-requires-clause-next g c =
-    let mp = g.P.Actor.machine in
-    let mn = g.N.Actor.machine in
-    let plan = g.C.Charter.plan in
-    let start = g.C.Charter.start in
-    let r = system_from mp mn plan start in
-    let x = c.args in
-    let gear = x.gear.now in
-    let ports = x.world.now.rows.ports in
-    let is = c.requires.gear in
-    let at = c.requires.at in
-    let parts = c.deref_mut.result.now in
-    let pn = x.next.now.parts in
-    let ln = x.next.now.links in
-    let pp = gear.parts.periods.items in
-    let lp = gear.links.periods.items in
-    let room = gear.recs.room in
-    let cleared : c.clear.new.self.room ≡ room = ap (λ (q : RecView). q.room) c.clear.ensures in
-    let none : c.clear.new.self.items ≡ [] = ap (λ (q : RecView). q.items) c.clear.ensures in
-    let was : IsBoundary r x.t (whole parts x.world.now.links.items ports) pn ln = subst (λ l. IsBoundary r x.t (whole l x.world.now.links.items ports) pn ln) (sym c.deref_mut.ensures.value) at.boundary in
-    let able = first_can r g.P.Actor.valid g.N.Actor.valid room x.t pp lp parts x.world.now.links.items ports pn ln is.fitted was c.requires.time is.enough in
-    let a = c.pass_parts-a in
-    let long = long_after mp gear.parts.wiring x.t parts a.new.parts ports a.new.rows.ports a.ensures.side_places in
-    let k = c.wake_changed in
-    let links = c.deref_mut-2.result.now in
-    let ports1 = k.new.rows.ports in
-    let was2 : IsBoundary r x.t (whole parts links ports) pn ln = subst (λ l. IsBoundary r x.t (whole parts l ports) pn ln) (sym c.deref_mut-2.ensures.value) was in
-    let ports_are : ports1 ≡ a.new.rows.ports = ap (λ (v : RowsView). v.ports) k.ensures.settled in
-    let wires : k.new.rows.wires ≡ link_wires plan = ap (λ (v : RowsView). v.wires) k.ensures.settled ∙ a.ensures.wires ∙ at.wires in
-    let room_is : a.new.gear.recs.room ≡ room = a.ensures.room ∙ cleared in
-    let did : PartsDone r x.t lp parts a.new.parts ports ports1 pn a.new.next ln k.new.next a.new.gear.recs.items a.result x.steps.now a.new.steps = record {
-      done = subst (λ l. PassDone mp (part_wires plan) x.t 0 parts a.new.parts ports l pn a.new.next [] a.new.gear.recs.items a.result x.steps.now a.new.steps) (sym ports_are)
-          (pass_as mp (part_wires plan) gear.parts.wiring x.t 0 gear.parts.first parts a.new.parts ports a.new.rows.ports pn a.new.next c.clear.new.self.items [] a.new.gear.recs.items a.result x.steps.now a.new.steps is.part_wires_are is.order.start none
-          (record { places = a.ensures.side_places; own = a.ensures.next; records_are = a.ensures.records; flag_is = a.ensures.flag; steps_are = a.ensures.steps }));
-      woke = woke_as false gear.links a.new.gear.links (link_wires plan) ports ports1 a.new.rows x.t ln k.new.next a.ensures.links is.link_wires_are ports_are able.wakes.wired (a.ensures.seen ∙ at.settled) k.ensures.woken;
-    } in
-    let able2 = second_can r g.P.Actor.valid g.N.Actor.valid room x.t pp lp parts a.new.parts links ports ports1 pn a.new.next ln k.new.next a.new.gear.recs.items a.result x.steps.now a.new.steps is.fitted was2 c.requires.time is.enough did in
-    able2.long
-
-pub pass_links-b-requires-clause-few : goal.pass_links-b-requires-clause-few
-pass_links-b-requires-clause-few g c =
-    let mp = g.P.Actor.machine in
-    let mn = g.N.Actor.machine in
-    let plan = g.C.Charter.plan in
-    let start = g.C.Charter.start in
-    let r = system_from mp mn plan start in
-    let x = c.args in
-    let gear = x.gear.now in
-    let ports = x.world.now.rows.ports in
-    let is = c.requires.gear in
-    let at = c.requires.at in
-    let parts = c.deref_mut.result.now in
-    let pn = x.next.now.parts in
-    let ln = x.next.now.links in
-    let pp = gear.parts.periods.items in
-    let lp = gear.links.periods.items in
-    let room = gear.recs.room in
-    let cleared : c.clear.new.self.room ≡ room = ap (λ (q : RecView). q.room) c.clear.ensures in
-    let none : c.clear.new.self.items ≡ [] = ap (λ (q : RecView). q.items) c.clear.ensures in
-    let was : IsBoundary r x.t (whole parts x.world.now.links.items ports) pn ln = subst (λ l. IsBoundary r x.t (whole l x.world.now.links.items ports) pn ln) (sym c.deref_mut.ensures.value) at.boundary in
-    let able = first_can r g.P.Actor.valid g.N.Actor.valid room x.t pp lp parts x.world.now.links.items ports pn ln is.fitted was c.requires.time is.enough in
-    let a = c.pass_parts-a in
-    let long = long_after mp gear.parts.wiring x.t parts a.new.parts ports a.new.rows.ports a.ensures.side_places in
-    let k = c.wake_changed in
-    let links = c.deref_mut-2.result.now in
-    let ports1 = k.new.rows.ports in
-    let was2 : IsBoundary r x.t (whole parts links ports) pn ln = subst (λ l. IsBoundary r x.t (whole parts l ports) pn ln) (sym c.deref_mut-2.ensures.value) was in
-    let ports_are : ports1 ≡ a.new.rows.ports = ap (λ (v : RowsView). v.ports) k.ensures.settled in
-    let wires : k.new.rows.wires ≡ link_wires plan = ap (λ (v : RowsView). v.wires) k.ensures.settled ∙ a.ensures.wires ∙ at.wires in
-    let room_is : a.new.gear.recs.room ≡ room = a.ensures.room ∙ cleared in
-    let did : PartsDone r x.t lp parts a.new.parts ports ports1 pn a.new.next ln k.new.next a.new.gear.recs.items a.result x.steps.now a.new.steps = record {
-      done = subst (λ l. PassDone mp (part_wires plan) x.t 0 parts a.new.parts ports l pn a.new.next [] a.new.gear.recs.items a.result x.steps.now a.new.steps) (sym ports_are)
-          (pass_as mp (part_wires plan) gear.parts.wiring x.t 0 gear.parts.first parts a.new.parts ports a.new.rows.ports pn a.new.next c.clear.new.self.items [] a.new.gear.recs.items a.result x.steps.now a.new.steps is.part_wires_are is.order.start none
-          (record { places = a.ensures.side_places; own = a.ensures.next; records_are = a.ensures.records; flag_is = a.ensures.flag; steps_are = a.ensures.steps }));
-      woke = woke_as false gear.links a.new.gear.links (link_wires plan) ports ports1 a.new.rows x.t ln k.new.next a.ensures.links is.link_wires_are ports_are able.wakes.wired (a.ensures.seen ∙ at.settled) k.ensures.woken;
-    } in
-    let able2 = second_can r g.P.Actor.valid g.N.Actor.valid room x.t pp lp parts a.new.parts links ports ports1 pn a.new.next ln k.new.next a.new.gear.recs.items a.result x.steps.now a.new.steps is.fitted was2 c.requires.time is.enough did in
-    let f = able2.few in omega (arith, f, ap (λ (s : SideGear). s.first) a.ensures.links, is.order.then, is.fitted.part_count)
-
-pub pass_links-b-requires-clause-enough : goal.pass_links-b-requires-clause-enough
-pass_links-b-requires-clause-enough g c =
-    let mp = g.P.Actor.machine in
-    let mn = g.N.Actor.machine in
-    let plan = g.C.Charter.plan in
-    let start = g.C.Charter.start in
-    let r = system_from mp mn plan start in
-    let x = c.args in
-    let gear = x.gear.now in
-    let ports = x.world.now.rows.ports in
-    let is = c.requires.gear in
-    let at = c.requires.at in
-    let parts = c.deref_mut.result.now in
-    let pn = x.next.now.parts in
-    let ln = x.next.now.links in
-    let pp = gear.parts.periods.items in
-    let lp = gear.links.periods.items in
-    let room = gear.recs.room in
-    let cleared : c.clear.new.self.room ≡ room = ap (λ (q : RecView). q.room) c.clear.ensures in
-    let none : c.clear.new.self.items ≡ [] = ap (λ (q : RecView). q.items) c.clear.ensures in
-    let was : IsBoundary r x.t (whole parts x.world.now.links.items ports) pn ln = subst (λ l. IsBoundary r x.t (whole l x.world.now.links.items ports) pn ln) (sym c.deref_mut.ensures.value) at.boundary in
-    let able = first_can r g.P.Actor.valid g.N.Actor.valid room x.t pp lp parts x.world.now.links.items ports pn ln is.fitted was c.requires.time is.enough in
-    let a = c.pass_parts-a in
-    let long = long_after mp gear.parts.wiring x.t parts a.new.parts ports a.new.rows.ports a.ensures.side_places in
-    let k = c.wake_changed in
-    let links = c.deref_mut-2.result.now in
-    let ports1 = k.new.rows.ports in
-    let was2 : IsBoundary r x.t (whole parts links ports) pn ln = subst (λ l. IsBoundary r x.t (whole parts l ports) pn ln) (sym c.deref_mut-2.ensures.value) was in
-    let ports_are : ports1 ≡ a.new.rows.ports = ap (λ (v : RowsView). v.ports) k.ensures.settled in
-    let wires : k.new.rows.wires ≡ link_wires plan = ap (λ (v : RowsView). v.wires) k.ensures.settled ∙ a.ensures.wires ∙ at.wires in
-    let room_is : a.new.gear.recs.room ≡ room = a.ensures.room ∙ cleared in
-    let did : PartsDone r x.t lp parts a.new.parts ports ports1 pn a.new.next ln k.new.next a.new.gear.recs.items a.result x.steps.now a.new.steps = record {
-      done = subst (λ l. PassDone mp (part_wires plan) x.t 0 parts a.new.parts ports l pn a.new.next [] a.new.gear.recs.items a.result x.steps.now a.new.steps) (sym ports_are)
-          (pass_as mp (part_wires plan) gear.parts.wiring x.t 0 gear.parts.first parts a.new.parts ports a.new.rows.ports pn a.new.next c.clear.new.self.items [] a.new.gear.recs.items a.result x.steps.now a.new.steps is.part_wires_are is.order.start none
-          (record { places = a.ensures.side_places; own = a.ensures.next; records_are = a.ensures.records; flag_is = a.ensures.flag; steps_are = a.ensures.steps }));
-      woke = woke_as false gear.links a.new.gear.links (link_wires plan) ports ports1 a.new.rows x.t ln k.new.next a.ensures.links is.link_wires_are ports_are able.wakes.wired (a.ensures.seen ∙ at.settled) k.ensures.woken;
-    } in
-    let able2 = second_can r g.P.Actor.valid g.N.Actor.valid room x.t pp lp parts a.new.parts links ports ports1 pn a.new.next ln k.new.next a.new.gear.recs.items a.result x.steps.now a.new.steps is.fitted was2 c.requires.time is.enough did in
-    let e = able2.enough in omega (arith, e, room_is, ap (λ w. own_to w (length links)) wires)
-
-pub wake_changed-requires-2-clause-wakes : goal.wake_changed-requires-2-clause-wakes
-wake_changed-requires-2-clause-wakes g c =
-    let mp = g.P.Actor.machine in
-    let mn = g.N.Actor.machine in
-    let plan = g.C.Charter.plan in
-    let start = g.C.Charter.start in
-    let r = system_from mp mn plan start in
-    let x = c.args in
-    let gear = x.gear.now in
-    let ports = x.world.now.rows.ports in
-    let is = c.requires.gear in
-    let at = c.requires.at in
-    let parts = c.deref_mut.result.now in
-    let pn = x.next.now.parts in
-    let ln = x.next.now.links in
-    let pp = gear.parts.periods.items in
-    let lp = gear.links.periods.items in
-    let room = gear.recs.room in
-    let cleared : c.clear.new.self.room ≡ room = ap (λ (q : RecView). q.room) c.clear.ensures in
-    let none : c.clear.new.self.items ≡ [] = ap (λ (q : RecView). q.items) c.clear.ensures in
-    let was : IsBoundary r x.t (whole parts x.world.now.links.items ports) pn ln = subst (λ l. IsBoundary r x.t (whole l x.world.now.links.items ports) pn ln) (sym c.deref_mut.ensures.value) at.boundary in
-    let able = first_can r g.P.Actor.valid g.N.Actor.valid room x.t pp lp parts x.world.now.links.items ports pn ln is.fitted was c.requires.time is.enough in
-    let a = c.pass_parts-a in
-    let long = long_after mp gear.parts.wiring x.t parts a.new.parts ports a.new.rows.ports a.ensures.side_places in
-    let k = c.wake_changed in
-    let links = c.deref_mut-2.result.now in
-    let ports1 = k.new.rows.ports in
-    let was2 : IsBoundary r x.t (whole parts links ports) pn ln = subst (λ l. IsBoundary r x.t (whole parts l ports) pn ln) (sym c.deref_mut-2.ensures.value) was in
-    let ports_are : ports1 ≡ a.new.rows.ports = ap (λ (v : RowsView). v.ports) k.ensures.settled in
-    let wires : k.new.rows.wires ≡ link_wires plan = ap (λ (v : RowsView). v.wires) k.ensures.settled ∙ a.ensures.wires ∙ at.wires in
-    let room_is : a.new.gear.recs.room ≡ room = a.ensures.room ∙ cleared in
-    let did : PartsDone r x.t lp parts a.new.parts ports ports1 pn a.new.next ln k.new.next a.new.gear.recs.items a.result x.steps.now a.new.steps = record {
-      done = subst (λ l. PassDone mp (part_wires plan) x.t 0 parts a.new.parts ports l pn a.new.next [] a.new.gear.recs.items a.result x.steps.now a.new.steps) (sym ports_are)
-          (pass_as mp (part_wires plan) gear.parts.wiring x.t 0 gear.parts.first parts a.new.parts ports a.new.rows.ports pn a.new.next c.clear.new.self.items [] a.new.gear.recs.items a.result x.steps.now a.new.steps is.part_wires_are is.order.start none
-          (record { places = a.ensures.side_places; own = a.ensures.next; records_are = a.ensures.records; flag_is = a.ensures.flag; steps_are = a.ensures.steps }));
-      woke = woke_as false gear.links a.new.gear.links (link_wires plan) ports ports1 a.new.rows x.t ln k.new.next a.ensures.links is.link_wires_are ports_are able.wakes.wired (a.ensures.seen ∙ at.settled) k.ensures.woken;
-    } in
-    let able2 = second_can r g.P.Actor.valid g.N.Actor.valid room x.t pp lp parts a.new.parts links ports ports1 pn a.new.next ln k.new.next a.new.gear.recs.items a.result x.steps.now a.new.steps is.fitted was2 c.requires.time is.enough did in
-    let b = c.pass_links-b in
-    let long2 = long_after mn k.new.rows.wires x.t links b.new.links ports1 b.new.rows.ports b.ensures.side_places in
-    let seen : b.new.rows.seen ≡ map face_of ports1 = b.ensures.seen ∙ ap (λ (v : RowsView). v.seen) k.ensures.settled ∙ ap (map face_of) (sym ports_are) in
-    subst (λ (s : SideGear). Wakes s.wiring (length b.new.rows.ports) s.periods.items a.new.next) (sym (b.ensures.parts ∙ a.ensures.parts)) (subst (λ w. Wakes w (length b.new.rows.ports) pp a.new.next) (sym is.part_wires_are) (subst (λ n. Wakes (part_wires plan) n pp a.new.next) (sym long2.1) able2.wakes))
-
-pub wake_changed-requires-2-clause-few : goal.wake_changed-requires-2-clause-few
-wake_changed-requires-2-clause-few g c =
-    let mp = g.P.Actor.machine in
-    let mn = g.N.Actor.machine in
-    let plan = g.C.Charter.plan in
-    let start = g.C.Charter.start in
-    let r = system_from mp mn plan start in
-    let x = c.args in
-    let gear = x.gear.now in
-    let ports = x.world.now.rows.ports in
-    let is = c.requires.gear in
-    let at = c.requires.at in
-    let parts = c.deref_mut.result.now in
-    let pn = x.next.now.parts in
-    let ln = x.next.now.links in
-    let pp = gear.parts.periods.items in
-    let lp = gear.links.periods.items in
-    let room = gear.recs.room in
-    let cleared : c.clear.new.self.room ≡ room = ap (λ (q : RecView). q.room) c.clear.ensures in
-    let none : c.clear.new.self.items ≡ [] = ap (λ (q : RecView). q.items) c.clear.ensures in
-    let was : IsBoundary r x.t (whole parts x.world.now.links.items ports) pn ln = subst (λ l. IsBoundary r x.t (whole l x.world.now.links.items ports) pn ln) (sym c.deref_mut.ensures.value) at.boundary in
-    let able = first_can r g.P.Actor.valid g.N.Actor.valid room x.t pp lp parts x.world.now.links.items ports pn ln is.fitted was c.requires.time is.enough in
-    let a = c.pass_parts-a in
-    let long = long_after mp gear.parts.wiring x.t parts a.new.parts ports a.new.rows.ports a.ensures.side_places in
-    let k = c.wake_changed in
-    let links = c.deref_mut-2.result.now in
-    let ports1 = k.new.rows.ports in
-    let was2 : IsBoundary r x.t (whole parts links ports) pn ln = subst (λ l. IsBoundary r x.t (whole parts l ports) pn ln) (sym c.deref_mut-2.ensures.value) was in
-    let ports_are : ports1 ≡ a.new.rows.ports = ap (λ (v : RowsView). v.ports) k.ensures.settled in
-    let wires : k.new.rows.wires ≡ link_wires plan = ap (λ (v : RowsView). v.wires) k.ensures.settled ∙ a.ensures.wires ∙ at.wires in
-    let room_is : a.new.gear.recs.room ≡ room = a.ensures.room ∙ cleared in
-    let did : PartsDone r x.t lp parts a.new.parts ports ports1 pn a.new.next ln k.new.next a.new.gear.recs.items a.result x.steps.now a.new.steps = record {
-      done = subst (λ l. PassDone mp (part_wires plan) x.t 0 parts a.new.parts ports l pn a.new.next [] a.new.gear.recs.items a.result x.steps.now a.new.steps) (sym ports_are)
-          (pass_as mp (part_wires plan) gear.parts.wiring x.t 0 gear.parts.first parts a.new.parts ports a.new.rows.ports pn a.new.next c.clear.new.self.items [] a.new.gear.recs.items a.result x.steps.now a.new.steps is.part_wires_are is.order.start none
-          (record { places = a.ensures.side_places; own = a.ensures.next; records_are = a.ensures.records; flag_is = a.ensures.flag; steps_are = a.ensures.steps }));
-      woke = woke_as false gear.links a.new.gear.links (link_wires plan) ports ports1 a.new.rows x.t ln k.new.next a.ensures.links is.link_wires_are ports_are able.wakes.wired (a.ensures.seen ∙ at.settled) k.ensures.woken;
-    } in
-    let able2 = second_can r g.P.Actor.valid g.N.Actor.valid room x.t pp lp parts a.new.parts links ports ports1 pn a.new.next ln k.new.next a.new.gear.recs.items a.result x.steps.now a.new.steps is.fitted was2 c.requires.time is.enough did in
-    let b = c.pass_links-b in
-    let long2 = long_after mn k.new.rows.wires x.t links b.new.links ports1 b.new.rows.ports b.ensures.side_places in
-    let seen : b.new.rows.seen ≡ map face_of ports1 = b.ensures.seen ∙ ap (λ (v : RowsView). v.seen) k.ensures.settled ∙ ap (map face_of) (sym ports_are) in
-    let f = able2.few_ports in omega (arith, f, long2.1)
-
-pub wake_changed-requires-2-clause-seen : goal.wake_changed-requires-2-clause-seen
-wake_changed-requires-2-clause-seen g c =
-    let mp = g.P.Actor.machine in
-    let mn = g.N.Actor.machine in
-    let plan = g.C.Charter.plan in
-    let start = g.C.Charter.start in
-    let r = system_from mp mn plan start in
-    let x = c.args in
-    let gear = x.gear.now in
-    let ports = x.world.now.rows.ports in
-    let is = c.requires.gear in
-    let at = c.requires.at in
-    let parts = c.deref_mut.result.now in
-    let pn = x.next.now.parts in
-    let ln = x.next.now.links in
-    let pp = gear.parts.periods.items in
-    let lp = gear.links.periods.items in
-    let room = gear.recs.room in
-    let cleared : c.clear.new.self.room ≡ room = ap (λ (q : RecView). q.room) c.clear.ensures in
-    let none : c.clear.new.self.items ≡ [] = ap (λ (q : RecView). q.items) c.clear.ensures in
-    let was : IsBoundary r x.t (whole parts x.world.now.links.items ports) pn ln = subst (λ l. IsBoundary r x.t (whole l x.world.now.links.items ports) pn ln) (sym c.deref_mut.ensures.value) at.boundary in
-    let able = first_can r g.P.Actor.valid g.N.Actor.valid room x.t pp lp parts x.world.now.links.items ports pn ln is.fitted was c.requires.time is.enough in
-    let a = c.pass_parts-a in
-    let long = long_after mp gear.parts.wiring x.t parts a.new.parts ports a.new.rows.ports a.ensures.side_places in
-    let k = c.wake_changed in
-    let links = c.deref_mut-2.result.now in
-    let ports1 = k.new.rows.ports in
-    let was2 : IsBoundary r x.t (whole parts links ports) pn ln = subst (λ l. IsBoundary r x.t (whole parts l ports) pn ln) (sym c.deref_mut-2.ensures.value) was in
-    let ports_are : ports1 ≡ a.new.rows.ports = ap (λ (v : RowsView). v.ports) k.ensures.settled in
-    let wires : k.new.rows.wires ≡ link_wires plan = ap (λ (v : RowsView). v.wires) k.ensures.settled ∙ a.ensures.wires ∙ at.wires in
-    let room_is : a.new.gear.recs.room ≡ room = a.ensures.room ∙ cleared in
-    let did : PartsDone r x.t lp parts a.new.parts ports ports1 pn a.new.next ln k.new.next a.new.gear.recs.items a.result x.steps.now a.new.steps = record {
-      done = subst (λ l. PassDone mp (part_wires plan) x.t 0 parts a.new.parts ports l pn a.new.next [] a.new.gear.recs.items a.result x.steps.now a.new.steps) (sym ports_are)
-          (pass_as mp (part_wires plan) gear.parts.wiring x.t 0 gear.parts.first parts a.new.parts ports a.new.rows.ports pn a.new.next c.clear.new.self.items [] a.new.gear.recs.items a.result x.steps.now a.new.steps is.part_wires_are is.order.start none
-          (record { places = a.ensures.side_places; own = a.ensures.next; records_are = a.ensures.records; flag_is = a.ensures.flag; steps_are = a.ensures.steps }));
-      woke = woke_as false gear.links a.new.gear.links (link_wires plan) ports ports1 a.new.rows x.t ln k.new.next a.ensures.links is.link_wires_are ports_are able.wakes.wired (a.ensures.seen ∙ at.settled) k.ensures.woken;
-    } in
-    let able2 = second_can r g.P.Actor.valid g.N.Actor.valid room x.t pp lp parts a.new.parts links ports ports1 pn a.new.next ln k.new.next a.new.gear.recs.items a.result x.steps.now a.new.steps is.fitted was2 c.requires.time is.enough did in
-    let b = c.pass_links-b in
-    let long2 = long_after mn k.new.rows.wires x.t links b.new.links ports1 b.new.rows.ports b.ensures.side_places in
-    let seen : b.new.rows.seen ≡ map face_of ports1 = b.ensures.seen ∙ ap (λ (v : RowsView). v.seen) k.ensures.settled ∙ ap (map face_of) (sym ports_are) in
-    ap length seen ∙ length-map ports1 face_of ∙ sym long2.1
-
-pub returns-clause-at : goal.returns-clause-at
-returns-clause-at g c =
-    let mp = g.P.Actor.machine in
-    let mn = g.N.Actor.machine in
-    let plan = g.C.Charter.plan in
-    let start = g.C.Charter.start in
-    let r = system_from mp mn plan start in
-    let x = c.args in
-    let gear = x.gear.now in
-    let ports = x.world.now.rows.ports in
-    let is = c.requires.gear in
-    let at = c.requires.at in
-    let parts = c.deref_mut.result.now in
-    let pn = x.next.now.parts in
-    let ln = x.next.now.links in
-    let pp = gear.parts.periods.items in
-    let lp = gear.links.periods.items in
-    let room = gear.recs.room in
-    let cleared : c.clear.new.self.room ≡ room = ap (λ (q : RecView). q.room) c.clear.ensures in
-    let none : c.clear.new.self.items ≡ [] = ap (λ (q : RecView). q.items) c.clear.ensures in
-    let was : IsBoundary r x.t (whole parts x.world.now.links.items ports) pn ln = subst (λ l. IsBoundary r x.t (whole l x.world.now.links.items ports) pn ln) (sym c.deref_mut.ensures.value) at.boundary in
-    let able = first_can r g.P.Actor.valid g.N.Actor.valid room x.t pp lp parts x.world.now.links.items ports pn ln is.fitted was c.requires.time is.enough in
-    let a = c.pass_parts-a in
-    let long = long_after mp gear.parts.wiring x.t parts a.new.parts ports a.new.rows.ports a.ensures.side_places in
-    let k = c.wake_changed in
-    let links = c.deref_mut-2.result.now in
-    let ports1 = k.new.rows.ports in
-    let was2 : IsBoundary r x.t (whole parts links ports) pn ln = subst (λ l. IsBoundary r x.t (whole parts l ports) pn ln) (sym c.deref_mut-2.ensures.value) was in
-    let ports_are : ports1 ≡ a.new.rows.ports = ap (λ (v : RowsView). v.ports) k.ensures.settled in
-    let wires : k.new.rows.wires ≡ link_wires plan = ap (λ (v : RowsView). v.wires) k.ensures.settled ∙ a.ensures.wires ∙ at.wires in
-    let room_is : a.new.gear.recs.room ≡ room = a.ensures.room ∙ cleared in
-    let did : PartsDone r x.t lp parts a.new.parts ports ports1 pn a.new.next ln k.new.next a.new.gear.recs.items a.result x.steps.now a.new.steps = record {
-      done = subst (λ l. PassDone mp (part_wires plan) x.t 0 parts a.new.parts ports l pn a.new.next [] a.new.gear.recs.items a.result x.steps.now a.new.steps) (sym ports_are)
-          (pass_as mp (part_wires plan) gear.parts.wiring x.t 0 gear.parts.first parts a.new.parts ports a.new.rows.ports pn a.new.next c.clear.new.self.items [] a.new.gear.recs.items a.result x.steps.now a.new.steps is.part_wires_are is.order.start none
-          (record { places = a.ensures.side_places; own = a.ensures.next; records_are = a.ensures.records; flag_is = a.ensures.flag; steps_are = a.ensures.steps }));
-      woke = woke_as false gear.links a.new.gear.links (link_wires plan) ports ports1 a.new.rows x.t ln k.new.next a.ensures.links is.link_wires_are ports_are able.wakes.wired (a.ensures.seen ∙ at.settled) k.ensures.woken;
-    } in
-    let able2 = second_can r g.P.Actor.valid g.N.Actor.valid room x.t pp lp parts a.new.parts links ports ports1 pn a.new.next ln k.new.next a.new.gear.recs.items a.result x.steps.now a.new.steps is.fitted was2 c.requires.time is.enough did in
-    let b = c.pass_links-b in
-    let long2 = long_after mn k.new.rows.wires x.t links b.new.links ports1 b.new.rows.ports b.ensures.side_places in
-    let seen : b.new.rows.seen ≡ map face_of ports1 = b.ensures.seen ∙ ap (λ (v : RowsView). v.seen) k.ensures.settled ∙ ap (map face_of) (sym ports_are) in
-    let l = c.wake_changed-2 in
-    let ports2 = l.new.rows.ports in
-    let ports_are2 : ports2 ≡ b.new.rows.ports = ap (λ (v : RowsView). v.ports) l.ensures.settled in
-    let first : a.new.gear.links.first ≡ length start.world.parts = ap (λ (s : SideGear). s.first) a.ensures.links ∙ is.order.then ∙ is.fitted.part_count in
-    let then : PassDone mn (link_wires plan) x.t (length start.world.parts) links b.new.links ports1 ports2 k.new.next b.new.next a.new.gear.recs.items b.new.gear.recs.items b.result a.new.steps b.new.steps =
-    subst (λ ps. PassDone mn (link_wires plan) x.t (length start.world.parts) links b.new.links ports1 ps k.new.next b.new.next a.new.gear.recs.items b.new.gear.recs.items b.result a.new.steps b.new.steps) (sym ports_are2)
-    (pass_as mn (link_wires plan) k.new.rows.wires x.t (length start.world.parts) a.new.gear.links.first links b.new.links ports1 b.new.rows.ports k.new.next b.new.next a.new.gear.recs.items a.new.gear.recs.items b.new.gear.recs.items b.result a.new.steps b.new.steps wires first refl
-    (record { places = b.ensures.side_places; own = b.ensures.next; records_are = b.ensures.records; flag_is = b.ensures.flag; steps_are = b.ensures.steps })) in
-    let woke = woke_as true gear.parts b.new.gear.parts (part_wires plan) ports1 ports2 b.new.rows (x.t + 1) a.new.next l.new.next (b.ensures.parts ∙ a.ensures.parts) is.part_wires_are ports_are2 able2.wakes.wired seen l.ensures.woken in
-    let done = time_done r g.P.Actor.valid g.N.Actor.valid room x.t pp lp parts a.new.parts links b.new.links ports ports1 ports2 pn a.new.next l.new.next ln k.new.next b.new.next a.new.gear.recs.items b.new.gear.recs.items a.result b.result x.steps.now a.new.steps b.new.steps is.fitted was2 c.requires.time did then woke in
-    let p = long.0 in
-    let q = long2.0 in
-    let parts_is : (with_items x.world.now.parts a.new.parts).items ≡ a.new.parts = with_items_is x.world.now.parts a.new.parts (p ∙ c.deref_mut.ensures.len) in
-    let links_is : (with_items x.world.now.links b.new.links).items ≡ b.new.links = with_items_is x.world.now.links b.new.links (q ∙ c.deref_mut-2.ensures.len) in
+-- the pass of the parts, and whom it woke
+one : (g : Over) (c : After-wake_changed g) → PartsTicked g.P.Actor.machine c.args.t c.args.steps.now c.args.world.now (cleared c.args.gear.now c.clear.new.self) c.args.next.now.parts c.args.next.now.links c.pass_parts-parts.new.steps c.pass_parts-parts.new.world c.pass_parts-parts.new.gear c.pass_parts-parts.new.next c.wake_changed.new.next c.wake_changed.new.rows c.pass_parts-parts.result
+one g c =
+    let did = c.pass_parts-parts.ensures in
     record {
-      boundary = subst (λ y. IsBoundary r (x.t + 1) (whole y (with_items x.world.now.links b.new.links).items ports2) l.new.next b.new.next) (sym parts_is)
-          (subst (λ y. IsBoundary r (x.t + 1) (whole a.new.parts y ports2) l.new.next b.new.next) (sym links_is) done.boundary);
-      settled = ap (λ (v : RowsView). v.seen) l.ensures.settled ∙ ap (map face_of) (sym ports_are2);
-      wires = ap (λ (v : RowsView). v.wires) l.ensures.settled ∙ b.ensures.wires ∙ wires;
+      passed = did.passed;
+      links = did.links;
+      stays = record { parts = did.stays.parts; links = did.stays.links; hands = did.stays.hands };
+      woke = record { woken_are = c.wake_changed.ensures.woken; rows_are = c.wake_changed.ensures.settled };
     }
 
-pub returns-clause-records : goal.returns-clause-records
-returns-clause-records g c =
-    let mp = g.P.Actor.machine in
-    let mn = g.N.Actor.machine in
-    let plan = g.C.Charter.plan in
-    let start = g.C.Charter.start in
-    let r = system_from mp mn plan start in
-    let x = c.args in
-    let gear = x.gear.now in
-    let ports = x.world.now.rows.ports in
+-- the pass of the links can begin
+second : (g : Over) (c : After-wake_changed g) → CanBegin g.N.Actor.machine g.N.Actor.valid c.args.gear.now.links c.args.gear.now.parts c.args.t (links_acting (with_rows c.pass_parts-parts.new.world c.wake_changed.new.rows) c.pass_parts-parts.new.gear.recs c.pass_parts-parts.new.steps) c.wake_changed.new.next c.pass_parts-parts.new.next
+second g c =
+    links_begin g.P.Actor.machine g.N.Actor.machine g.P.Actor.valid g.N.Actor.valid g.C.Charter.start c.args.t c.args.steps.now c.pass_parts-parts.new.steps c.args.world.now c.pass_parts-parts.new.world (cleared c.args.gear.now c.clear.new.self) c.pass_parts-parts.new.gear c.args.next.now.parts c.args.next.now.links c.pass_parts-parts.new.next c.wake_changed.new.next c.wake_changed.new.rows c.pass_parts-parts.result
+    (can_tick g.P.Actor.machine g.N.Actor.machine g.P.Actor.valid g.N.Actor.valid g.C.Charter.plan g.C.Charter.start c.args.t c.args.world.now c.args.gear.now c.clear.new.self c.args.next.now c.requires.gear c.requires.at c.requires.time c.clear.ensures (cleared c.args.gear.now c.clear.new.self) refl refl refl)
+    (one g c)
+
+pub pass_parts-parts-requires-clause-can : goal.pass_parts-parts-requires-clause-can
+pass_parts-parts-requires-clause-can g c = (first g (goal.at.pass_parts-parts-requires-clause-can g c).After-clear).can
+
+pub pass_parts-parts-requires-clause-hands : goal.pass_parts-parts-requires-clause-hands
+pass_parts-parts-requires-clause-hands g c =
     let is = c.requires.gear in
-    let at = c.requires.at in
-    let parts = c.deref_mut.result.now in
-    let pn = x.next.now.parts in
-    let ln = x.next.now.links in
-    let pp = gear.parts.periods.items in
-    let lp = gear.links.periods.items in
-    let room = gear.recs.room in
-    let cleared : c.clear.new.self.room ≡ room = ap (λ (q : RecView). q.room) c.clear.ensures in
-    let none : c.clear.new.self.items ≡ [] = ap (λ (q : RecView). q.items) c.clear.ensures in
-    let was : IsBoundary r x.t (whole parts x.world.now.links.items ports) pn ln = subst (λ l. IsBoundary r x.t (whole l x.world.now.links.items ports) pn ln) (sym c.deref_mut.ensures.value) at.boundary in
-    let able = first_can r g.P.Actor.valid g.N.Actor.valid room x.t pp lp parts x.world.now.links.items ports pn ln is.fitted was c.requires.time is.enough in
-    let a = c.pass_parts-a in
-    let long = long_after mp gear.parts.wiring x.t parts a.new.parts ports a.new.rows.ports a.ensures.side_places in
-    let k = c.wake_changed in
-    let links = c.deref_mut-2.result.now in
-    let ports1 = k.new.rows.ports in
-    let was2 : IsBoundary r x.t (whole parts links ports) pn ln = subst (λ l. IsBoundary r x.t (whole parts l ports) pn ln) (sym c.deref_mut-2.ensures.value) was in
-    let ports_are : ports1 ≡ a.new.rows.ports = ap (λ (v : RowsView). v.ports) k.ensures.settled in
-    let wires : k.new.rows.wires ≡ link_wires plan = ap (λ (v : RowsView). v.wires) k.ensures.settled ∙ a.ensures.wires ∙ at.wires in
-    let room_is : a.new.gear.recs.room ≡ room = a.ensures.room ∙ cleared in
-    let did : PartsDone r x.t lp parts a.new.parts ports ports1 pn a.new.next ln k.new.next a.new.gear.recs.items a.result x.steps.now a.new.steps = record {
-      done = subst (λ l. PassDone mp (part_wires plan) x.t 0 parts a.new.parts ports l pn a.new.next [] a.new.gear.recs.items a.result x.steps.now a.new.steps) (sym ports_are)
-          (pass_as mp (part_wires plan) gear.parts.wiring x.t 0 gear.parts.first parts a.new.parts ports a.new.rows.ports pn a.new.next c.clear.new.self.items [] a.new.gear.recs.items a.result x.steps.now a.new.steps is.part_wires_are is.order.start none
-          (record { places = a.ensures.side_places; own = a.ensures.next; records_are = a.ensures.records; flag_is = a.ensures.flag; steps_are = a.ensures.steps }));
-      woke = woke_as false gear.links a.new.gear.links (link_wires plan) ports ports1 a.new.rows x.t ln k.new.next a.ensures.links is.link_wires_are ports_are able.wakes.wired (a.ensures.seen ∙ at.settled) k.ensures.woken;
-    } in
-    let able2 = second_can r g.P.Actor.valid g.N.Actor.valid room x.t pp lp parts a.new.parts links ports ports1 pn a.new.next ln k.new.next a.new.gear.recs.items a.result x.steps.now a.new.steps is.fitted was2 c.requires.time is.enough did in
-    let b = c.pass_links-b in
-    let long2 = long_after mn k.new.rows.wires x.t links b.new.links ports1 b.new.rows.ports b.ensures.side_places in
-    let seen : b.new.rows.seen ≡ map face_of ports1 = b.ensures.seen ∙ ap (λ (v : RowsView). v.seen) k.ensures.settled ∙ ap (map face_of) (sym ports_are) in
-    let l = c.wake_changed-2 in
-    let ports2 = l.new.rows.ports in
-    let ports_are2 : ports2 ≡ b.new.rows.ports = ap (λ (v : RowsView). v.ports) l.ensures.settled in
-    let first : a.new.gear.links.first ≡ length start.world.parts = ap (λ (s : SideGear). s.first) a.ensures.links ∙ is.order.then ∙ is.fitted.part_count in
-    let then : PassDone mn (link_wires plan) x.t (length start.world.parts) links b.new.links ports1 ports2 k.new.next b.new.next a.new.gear.recs.items b.new.gear.recs.items b.result a.new.steps b.new.steps =
-    subst (λ ps. PassDone mn (link_wires plan) x.t (length start.world.parts) links b.new.links ports1 ps k.new.next b.new.next a.new.gear.recs.items b.new.gear.recs.items b.result a.new.steps b.new.steps) (sym ports_are2)
-    (pass_as mn (link_wires plan) k.new.rows.wires x.t (length start.world.parts) a.new.gear.links.first links b.new.links ports1 b.new.rows.ports k.new.next b.new.next a.new.gear.recs.items a.new.gear.recs.items b.new.gear.recs.items b.result a.new.steps b.new.steps wires first refl
-    (record { places = b.ensures.side_places; own = b.ensures.next; records_are = b.ensures.records; flag_is = b.ensures.flag; steps_are = b.ensures.steps })) in
-    let woke = woke_as true gear.parts b.new.gear.parts (part_wires plan) ports1 ports2 b.new.rows (x.t + 1) a.new.next l.new.next (b.ensures.parts ∙ a.ensures.parts) is.part_wires_are ports_are2 able2.wakes.wired seen l.ensures.woken in
-    let done = time_done r g.P.Actor.valid g.N.Actor.valid room x.t pp lp parts a.new.parts links b.new.links ports ports1 ports2 pn a.new.next l.new.next ln k.new.next b.new.next a.new.gear.recs.items b.new.gear.recs.items a.result b.result x.steps.now a.new.steps b.new.steps is.fitted was2 c.requires.time did then woke in
-    done.records_are
+    subst (λ w. AreLong c.args.gear.now.hands.items w (length c.args.world.now.parts.items)) (sym is.part_wires_are)
+    (subst (λ n. AreLong c.args.gear.now.hands.items (part_wires g.C.Charter.plan) n) (sym c.requires.at.boundary.parts_are.long ∙ (first g (goal.at.pass_parts-parts-requires-clause-hands g c).After-clear).can.all_next) is.hands_are)
+
+pub wake_changed-requires-clause-wakes : goal.wake_changed-requires-clause-wakes
+wake_changed-requires-clause-wakes g c = (first_woken g c).wakes
+
+pub wake_changed-requires-clause-few : goal.wake_changed-requires-clause-few
+wake_changed-requires-clause-few g c = (first_woken g c).few
+
+pub wake_changed-requires-clause-seen : goal.wake_changed-requires-clause-seen
+wake_changed-requires-clause-seen g c = (first_woken g c).seen_all
+
+pub pass_links-links-requires-clause-can : goal.pass_links-links-requires-clause-can
+pass_links-links-requires-clause-can g c =
+    subst (λ (s : SideGear). CanPass g.N.Actor.machine g.N.Actor.valid s c.args.t (links_acting (with_rows c.pass_parts-parts.new.world c.wake_changed.new.rows) c.pass_parts-parts.new.gear.recs c.pass_parts-parts.new.steps) c.wake_changed.new.next) (sym c.pass_parts-parts.ensures.stays.links)
+    (second g (goal.at.pass_links-links-requires-clause-can g c).After-wake_changed).can
+
+pub pass_links-links-requires-clause-wires : goal.pass_links-links-requires-clause-wires
+pass_links-links-requires-clause-wires g c =
+    ap (λ (s : SideGear). s.wiring) c.pass_parts-parts.ensures.stays.links
+    ∙ c.requires.gear.link_wires_are
+    ∙ sym c.requires.at.wires
+    ∙ sym c.pass_parts-parts.ensures.passed.wires
+    ∙ sym (ap (λ (v : RowsView). v.wires) c.wake_changed.ensures.settled)
+
+-- parts can be woken then
+second_woken : (g : Over) (c : After-wake_changed-arg-6-1 g) → CanBeWoken c.pass_links-links.new.gear.parts c.pass_links-links.new.world.rows c.pass_parts-parts.new.next
+second_woken g c =
+    let did = c.pass_parts-parts.ensures in
+    let one : PartsTicked g.P.Actor.machine c.args.t c.args.steps.now c.args.world.now (cleared c.args.gear.now c.clear.new.self) c.args.next.now.parts c.args.next.now.links c.pass_parts-parts.new.steps c.pass_parts-parts.new.world c.pass_parts-parts.new.gear c.pass_parts-parts.new.next c.wake_changed.new.next c.wake_changed.new.rows c.pass_parts-parts.result = (record { passed = did.passed; links = did.links; stays = record { parts = did.stays.parts; links = did.stays.links; hands = did.stays.hands }; woke = record { woken_are = c.wake_changed.ensures.woken; rows_are = c.wake_changed.ensures.settled } }) in
+    let begin = links_begin g.P.Actor.machine g.N.Actor.machine g.P.Actor.valid g.N.Actor.valid g.C.Charter.start c.args.t c.args.steps.now c.pass_parts-parts.new.steps c.args.world.now c.pass_parts-parts.new.world (cleared c.args.gear.now c.clear.new.self) c.pass_parts-parts.new.gear c.args.next.now.parts c.args.next.now.links c.pass_parts-parts.new.next c.wake_changed.new.next c.wake_changed.new.rows c.pass_parts-parts.result
+    (can_tick g.P.Actor.machine g.N.Actor.machine g.P.Actor.valid g.N.Actor.valid g.C.Charter.plan g.C.Charter.start c.args.t c.args.world.now c.args.gear.now c.clear.new.self c.args.next.now c.requires.gear c.requires.at c.requires.time c.clear.ensures (cleared c.args.gear.now c.clear.new.self) refl refl refl)
+    one in
+    let old = links_acting (with_rows c.pass_parts-parts.new.world c.wake_changed.new.rows) c.pass_parts-parts.new.gear.recs c.pass_parts-parts.new.steps in
+    let new = links_acting c.pass_links-links.new.world c.pass_links-links.new.gear.recs c.pass_links-links.new.steps in
+    can_be_woken g.N.Actor.machine g.N.Actor.valid c.args.gear.now.links c.args.gear.now.parts c.pass_links-links.new.gear.parts c.args.t old new c.wake_changed.new.next c.pass_links-links.new.next c.pass_parts-parts.new.next c.pass_links-links.result
+    begin
+    (subst (λ (s : SideGear). HasPassed g.N.Actor.machine s c.args.t old c.wake_changed.new.next new c.pass_links-links.new.next c.pass_links-links.result) did.stays.links c.pass_links-links.ensures.passed)
+    (then_settled g.P.Actor.machine c.args.t c.args.steps.now c.pass_parts-parts.new.steps c.args.world.now c.pass_parts-parts.new.world (cleared c.args.gear.now c.clear.new.self) c.pass_parts-parts.new.gear c.args.next.now.parts c.args.next.now.links c.pass_parts-parts.new.next c.wake_changed.new.next c.wake_changed.new.rows c.pass_parts-parts.result one)
+    (c.pass_links-links.ensures.stays.parts ∙ did.stays.parts)
+
+pub wake_changed-requires-2-clause-wakes : goal.wake_changed-requires-2-clause-wakes
+wake_changed-requires-2-clause-wakes g c = (second_woken g c).wakes
+
+pub wake_changed-requires-2-clause-few : goal.wake_changed-requires-2-clause-few
+wake_changed-requires-2-clause-few g c = (second_woken g c).few
+
+pub wake_changed-requires-2-clause-seen : goal.wake_changed-requires-2-clause-seen
+wake_changed-requires-2-clause-seen g c = (second_woken g c).seen_all
+
+-- a time of the run
+done : (g : Over) (c : After-wake_changed-2 g) → IsTicked (system_from g.P.Actor.machine g.N.Actor.machine g.C.Charter.plan g.C.Charter.start) c.args.t c.pass_links-links.new.world c.wake_changed-2.new.rows c.wake_changed-2.new.next c.pass_links-links.new.next c.pass_links-links.new.gear.recs.items c.pass_parts-parts.result c.pass_links-links.result c.args.steps.now c.pass_links-links.new.steps
+done g c =
+    let did = c.pass_parts-parts.ensures in
+    let then = c.pass_links-links.ensures in
+    run_ticked g.P.Actor.machine g.N.Actor.machine g.P.Actor.valid g.N.Actor.valid g.C.Charter.plan g.C.Charter.start c.args.t c.args.steps.now c.pass_parts-parts.new.steps c.pass_links-links.new.steps c.args.world.now c.pass_parts-parts.new.world c.pass_links-links.new.world (cleared c.args.gear.now c.clear.new.self) c.pass_parts-parts.new.gear c.pass_links-links.new.gear c.args.next.now.parts c.args.next.now.links c.pass_parts-parts.new.next c.wake_changed.new.next c.wake_changed-2.new.next c.pass_links-links.new.next c.wake_changed.new.rows c.wake_changed-2.new.rows c.pass_parts-parts.result c.pass_links-links.result
+    c.requires.gear.part_wires_are c.requires.gear.link_wires_are (ap (λ (r : RecView). r.items) c.clear.ensures)
+    (can_tick g.P.Actor.machine g.N.Actor.machine g.P.Actor.valid g.N.Actor.valid g.C.Charter.plan g.C.Charter.start c.args.t c.args.world.now c.args.gear.now c.clear.new.self c.args.next.now c.requires.gear c.requires.at c.requires.time c.clear.ensures (cleared c.args.gear.now c.clear.new.self) refl refl refl)
+    (record { passed = did.passed; links = did.links; stays = record { parts = did.stays.parts; links = did.stays.links; hands = did.stays.hands }; woke = record { woken_are = c.wake_changed.ensures.woken; rows_are = c.wake_changed.ensures.settled } })
+    (record { passed = then.passed; parts = then.parts; stays = record { parts = then.stays.parts; links = then.stays.links; hands = then.stays.hands }; woke = record { woken_are = c.wake_changed-2.ensures.woken; rows_are = c.wake_changed-2.ensures.settled } })
+
+pub returns-clause-gear : goal.returns-clause-gear
+returns-clause-gear g c =
+    let is = c.requires.gear in
+    let did = c.pass_parts-parts.ensures in
+    let then = c.pass_links-links.ensures in
+    is_gear_still g.P.Actor.machine g.N.Actor.machine g.P.Actor.valid g.N.Actor.valid g.C.Charter.plan g.C.Charter.start c.args.gear.now c.pass_links-links.new.gear is (then.stays.parts ∙ did.stays.parts) (then.stays.links ∙ did.stays.links) (then.stays.hands ∙ did.stays.hands) (then.passed.room ∙ did.passed.room ∙ ap (λ (r : RecView). r.room) c.clear.ensures)
+
+pub returns-clause-at : goal.returns-clause-at
+returns-clause-at g c = record {
+  boundary = (done g (goal.at.returns-clause-at g c).After-wake_changed-2).boundary;
+  settled = ap (λ (v : RowsView). v.seen) c.wake_changed-2.ensures.settled ∙ sym (ap (λ (v : RowsView). map face_of v.ports) c.wake_changed-2.ensures.settled);
+  wires =
+      ap (λ (v : RowsView). v.wires) c.wake_changed-2.ensures.settled
+      ∙ c.pass_links-links.ensures.passed.wires
+      ∙ ap (λ (v : RowsView). v.wires) c.wake_changed.ensures.settled
+      ∙ c.pass_parts-parts.ensures.passed.wires
+      ∙ c.requires.at.wires;
+}
+
+pub returns-clause-records : goal.returns-clause-records
+returns-clause-records g c = (done g (goal.at.returns-clause-records g c).After-wake_changed-2).records_are
 
 pub returns-clause-flag : goal.returns-clause-flag
-returns-clause-flag g c =
-    let mp = g.P.Actor.machine in
-    let mn = g.N.Actor.machine in
-    let plan = g.C.Charter.plan in
-    let start = g.C.Charter.start in
-    let r = system_from mp mn plan start in
-    let x = c.args in
-    let gear = x.gear.now in
-    let ports = x.world.now.rows.ports in
-    let is = c.requires.gear in
-    let at = c.requires.at in
-    let parts = c.deref_mut.result.now in
-    let pn = x.next.now.parts in
-    let ln = x.next.now.links in
-    let pp = gear.parts.periods.items in
-    let lp = gear.links.periods.items in
-    let room = gear.recs.room in
-    let cleared : c.clear.new.self.room ≡ room = ap (λ (q : RecView). q.room) c.clear.ensures in
-    let none : c.clear.new.self.items ≡ [] = ap (λ (q : RecView). q.items) c.clear.ensures in
-    let was : IsBoundary r x.t (whole parts x.world.now.links.items ports) pn ln = subst (λ l. IsBoundary r x.t (whole l x.world.now.links.items ports) pn ln) (sym c.deref_mut.ensures.value) at.boundary in
-    let able = first_can r g.P.Actor.valid g.N.Actor.valid room x.t pp lp parts x.world.now.links.items ports pn ln is.fitted was c.requires.time is.enough in
-    let a = c.pass_parts-a in
-    let long = long_after mp gear.parts.wiring x.t parts a.new.parts ports a.new.rows.ports a.ensures.side_places in
-    let k = c.wake_changed in
-    let links = c.deref_mut-2.result.now in
-    let ports1 = k.new.rows.ports in
-    let was2 : IsBoundary r x.t (whole parts links ports) pn ln = subst (λ l. IsBoundary r x.t (whole parts l ports) pn ln) (sym c.deref_mut-2.ensures.value) was in
-    let ports_are : ports1 ≡ a.new.rows.ports = ap (λ (v : RowsView). v.ports) k.ensures.settled in
-    let wires : k.new.rows.wires ≡ link_wires plan = ap (λ (v : RowsView). v.wires) k.ensures.settled ∙ a.ensures.wires ∙ at.wires in
-    let room_is : a.new.gear.recs.room ≡ room = a.ensures.room ∙ cleared in
-    let did : PartsDone r x.t lp parts a.new.parts ports ports1 pn a.new.next ln k.new.next a.new.gear.recs.items a.result x.steps.now a.new.steps = record {
-      done = subst (λ l. PassDone mp (part_wires plan) x.t 0 parts a.new.parts ports l pn a.new.next [] a.new.gear.recs.items a.result x.steps.now a.new.steps) (sym ports_are)
-          (pass_as mp (part_wires plan) gear.parts.wiring x.t 0 gear.parts.first parts a.new.parts ports a.new.rows.ports pn a.new.next c.clear.new.self.items [] a.new.gear.recs.items a.result x.steps.now a.new.steps is.part_wires_are is.order.start none
-          (record { places = a.ensures.side_places; own = a.ensures.next; records_are = a.ensures.records; flag_is = a.ensures.flag; steps_are = a.ensures.steps }));
-      woke = woke_as false gear.links a.new.gear.links (link_wires plan) ports ports1 a.new.rows x.t ln k.new.next a.ensures.links is.link_wires_are ports_are able.wakes.wired (a.ensures.seen ∙ at.settled) k.ensures.woken;
-    } in
-    let able2 = second_can r g.P.Actor.valid g.N.Actor.valid room x.t pp lp parts a.new.parts links ports ports1 pn a.new.next ln k.new.next a.new.gear.recs.items a.result x.steps.now a.new.steps is.fitted was2 c.requires.time is.enough did in
-    let b = c.pass_links-b in
-    let long2 = long_after mn k.new.rows.wires x.t links b.new.links ports1 b.new.rows.ports b.ensures.side_places in
-    let seen : b.new.rows.seen ≡ map face_of ports1 = b.ensures.seen ∙ ap (λ (v : RowsView). v.seen) k.ensures.settled ∙ ap (map face_of) (sym ports_are) in
-    let l = c.wake_changed-2 in
-    let ports2 = l.new.rows.ports in
-    let ports_are2 : ports2 ≡ b.new.rows.ports = ap (λ (v : RowsView). v.ports) l.ensures.settled in
-    let first : a.new.gear.links.first ≡ length start.world.parts = ap (λ (s : SideGear). s.first) a.ensures.links ∙ is.order.then ∙ is.fitted.part_count in
-    let then : PassDone mn (link_wires plan) x.t (length start.world.parts) links b.new.links ports1 ports2 k.new.next b.new.next a.new.gear.recs.items b.new.gear.recs.items b.result a.new.steps b.new.steps =
-    subst (λ ps. PassDone mn (link_wires plan) x.t (length start.world.parts) links b.new.links ports1 ps k.new.next b.new.next a.new.gear.recs.items b.new.gear.recs.items b.result a.new.steps b.new.steps) (sym ports_are2)
-    (pass_as mn (link_wires plan) k.new.rows.wires x.t (length start.world.parts) a.new.gear.links.first links b.new.links ports1 b.new.rows.ports k.new.next b.new.next a.new.gear.recs.items a.new.gear.recs.items b.new.gear.recs.items b.result a.new.steps b.new.steps wires first refl
-    (record { places = b.ensures.side_places; own = b.ensures.next; records_are = b.ensures.records; flag_is = b.ensures.flag; steps_are = b.ensures.steps })) in
-    let woke = woke_as true gear.parts b.new.gear.parts (part_wires plan) ports1 ports2 b.new.rows (x.t + 1) a.new.next l.new.next (b.ensures.parts ∙ a.ensures.parts) is.part_wires_are ports_are2 able2.wakes.wired seen l.ensures.woken in
-    let done = time_done r g.P.Actor.valid g.N.Actor.valid room x.t pp lp parts a.new.parts links b.new.links ports ports1 ports2 pn a.new.next l.new.next ln k.new.next b.new.next a.new.gear.recs.items b.new.gear.recs.items a.result b.result x.steps.now a.new.steps b.new.steps is.fitted was2 c.requires.time did then woke in
-    c.either.ensures ∙ done.flag_is
+returns-clause-flag g c = c.either.ensures ∙ (done g (goal.at.returns-clause-flag g c).After-wake_changed-2).flag_is
 
 pub returns-clause-steps : goal.returns-clause-steps
-returns-clause-steps g c =
-    let mp = g.P.Actor.machine in
-    let mn = g.N.Actor.machine in
-    let plan = g.C.Charter.plan in
-    let start = g.C.Charter.start in
-    let r = system_from mp mn plan start in
-    let x = c.args in
-    let gear = x.gear.now in
-    let ports = x.world.now.rows.ports in
-    let is = c.requires.gear in
-    let at = c.requires.at in
-    let parts = c.deref_mut.result.now in
-    let pn = x.next.now.parts in
-    let ln = x.next.now.links in
-    let pp = gear.parts.periods.items in
-    let lp = gear.links.periods.items in
-    let room = gear.recs.room in
-    let cleared : c.clear.new.self.room ≡ room = ap (λ (q : RecView). q.room) c.clear.ensures in
-    let none : c.clear.new.self.items ≡ [] = ap (λ (q : RecView). q.items) c.clear.ensures in
-    let was : IsBoundary r x.t (whole parts x.world.now.links.items ports) pn ln = subst (λ l. IsBoundary r x.t (whole l x.world.now.links.items ports) pn ln) (sym c.deref_mut.ensures.value) at.boundary in
-    let able = first_can r g.P.Actor.valid g.N.Actor.valid room x.t pp lp parts x.world.now.links.items ports pn ln is.fitted was c.requires.time is.enough in
-    let a = c.pass_parts-a in
-    let long = long_after mp gear.parts.wiring x.t parts a.new.parts ports a.new.rows.ports a.ensures.side_places in
-    let k = c.wake_changed in
-    let links = c.deref_mut-2.result.now in
-    let ports1 = k.new.rows.ports in
-    let was2 : IsBoundary r x.t (whole parts links ports) pn ln = subst (λ l. IsBoundary r x.t (whole parts l ports) pn ln) (sym c.deref_mut-2.ensures.value) was in
-    let ports_are : ports1 ≡ a.new.rows.ports = ap (λ (v : RowsView). v.ports) k.ensures.settled in
-    let wires : k.new.rows.wires ≡ link_wires plan = ap (λ (v : RowsView). v.wires) k.ensures.settled ∙ a.ensures.wires ∙ at.wires in
-    let room_is : a.new.gear.recs.room ≡ room = a.ensures.room ∙ cleared in
-    let did : PartsDone r x.t lp parts a.new.parts ports ports1 pn a.new.next ln k.new.next a.new.gear.recs.items a.result x.steps.now a.new.steps = record {
-      done = subst (λ l. PassDone mp (part_wires plan) x.t 0 parts a.new.parts ports l pn a.new.next [] a.new.gear.recs.items a.result x.steps.now a.new.steps) (sym ports_are)
-          (pass_as mp (part_wires plan) gear.parts.wiring x.t 0 gear.parts.first parts a.new.parts ports a.new.rows.ports pn a.new.next c.clear.new.self.items [] a.new.gear.recs.items a.result x.steps.now a.new.steps is.part_wires_are is.order.start none
-          (record { places = a.ensures.side_places; own = a.ensures.next; records_are = a.ensures.records; flag_is = a.ensures.flag; steps_are = a.ensures.steps }));
-      woke = woke_as false gear.links a.new.gear.links (link_wires plan) ports ports1 a.new.rows x.t ln k.new.next a.ensures.links is.link_wires_are ports_are able.wakes.wired (a.ensures.seen ∙ at.settled) k.ensures.woken;
-    } in
-    let able2 = second_can r g.P.Actor.valid g.N.Actor.valid room x.t pp lp parts a.new.parts links ports ports1 pn a.new.next ln k.new.next a.new.gear.recs.items a.result x.steps.now a.new.steps is.fitted was2 c.requires.time is.enough did in
-    let b = c.pass_links-b in
-    let long2 = long_after mn k.new.rows.wires x.t links b.new.links ports1 b.new.rows.ports b.ensures.side_places in
-    let seen : b.new.rows.seen ≡ map face_of ports1 = b.ensures.seen ∙ ap (λ (v : RowsView). v.seen) k.ensures.settled ∙ ap (map face_of) (sym ports_are) in
-    let l = c.wake_changed-2 in
-    let ports2 = l.new.rows.ports in
-    let ports_are2 : ports2 ≡ b.new.rows.ports = ap (λ (v : RowsView). v.ports) l.ensures.settled in
-    let first : a.new.gear.links.first ≡ length start.world.parts = ap (λ (s : SideGear). s.first) a.ensures.links ∙ is.order.then ∙ is.fitted.part_count in
-    let then : PassDone mn (link_wires plan) x.t (length start.world.parts) links b.new.links ports1 ports2 k.new.next b.new.next a.new.gear.recs.items b.new.gear.recs.items b.result a.new.steps b.new.steps =
-    subst (λ ps. PassDone mn (link_wires plan) x.t (length start.world.parts) links b.new.links ports1 ps k.new.next b.new.next a.new.gear.recs.items b.new.gear.recs.items b.result a.new.steps b.new.steps) (sym ports_are2)
-    (pass_as mn (link_wires plan) k.new.rows.wires x.t (length start.world.parts) a.new.gear.links.first links b.new.links ports1 b.new.rows.ports k.new.next b.new.next a.new.gear.recs.items a.new.gear.recs.items b.new.gear.recs.items b.result a.new.steps b.new.steps wires first refl
-    (record { places = b.ensures.side_places; own = b.ensures.next; records_are = b.ensures.records; flag_is = b.ensures.flag; steps_are = b.ensures.steps })) in
-    let woke = woke_as true gear.parts b.new.gear.parts (part_wires plan) ports1 ports2 b.new.rows (x.t + 1) a.new.next l.new.next (b.ensures.parts ∙ a.ensures.parts) is.part_wires_are ports_are2 able2.wakes.wired seen l.ensures.woken in
-    let done = time_done r g.P.Actor.valid g.N.Actor.valid room x.t pp lp parts a.new.parts links b.new.links ports ports1 ports2 pn a.new.next l.new.next ln k.new.next b.new.next a.new.gear.recs.items b.new.gear.recs.items a.result b.result x.steps.now a.new.steps b.new.steps is.fitted was2 c.requires.time did then woke in
-    done.steps_are
+returns-clause-steps g c = (done g (goal.at.returns-clause-steps g c).After-wake_changed-2).steps_are

@@ -1,0 +1,27 @@
+use Rattle.std.proofs.Common.{length, ap, subst, sym, ◌∙◌, arith}
+use Rattle.tick_law.specs.Wires.{Has, AllApart}
+use Rattle.actor_turn.specs.Act.{parts_acting}
+use Rattle.actor_turn.proofs.ActLaws.{read_at, acted_wait, acted_edge}
+use Rattle.actor_turn.proofs.side.SideGear.act_part.Goals as goal
+
+pub returns-then-t-period-ne0-clause-acted : goal.returns-then-t-period-ne0-clause-acted
+returns-then-t-period-ne0-clause-acted g c =
+    acted_wait g.P.Actor.machine c.args.self.now c.args.no c.args.t c.period-period.result c.index_mut-part.result.now (parts_acting c.args.world.now c.args.recs.now c.args.steps.now) c.begin.new.self
+    c.requires.can c.begin.ensures c.index_mut-part.ensures.value c.period-period.ensures.period c.if-t-period-ne0.true
+
+pub tick_part-requires-clause-within : goal.tick_part-requires-clause-within
+tick_part-requires-clause-within g c = λ q h. c.requires.can.wired.within c.args.no q (subst (λ l. Has l q) c.own-own.ensures h)
+
+pub tick_part-requires-clause-apart : goal.tick_part-requires-clause-apart
+tick_part-requires-clause-apart g c = subst (λ l. AllApart l) (sym c.own-own.ensures) (c.requires.can.wired.apart c.args.no)
+
+pub tick_part-requires-clause-own : goal.tick_part-requires-clause-own
+tick_part-requires-clause-own g c =
+    ap length c.own-own.ensures
+    ∙ c.requires.can.count c.index_mut-part.result.now (read_at c.args.world.now.parts.items c.args.no c.index_mut-part.result.now c.requires.can.here c.index_mut-part.ensures.value)
+
+pub returns-clause-acted : goal.returns-clause-acted
+returns-clause-acted g c =
+    let e = c.tick_part.ensures in
+    acted_edge g.P.Actor.machine c.args.self.now c.own-own.result.now c.args.no c.args.t c.period-period.result c.index_mut-part.result.now c.tick_part.new.part (parts_acting c.args.world.now c.args.recs.now c.args.steps.now) c.begin.new.self c.tick_part.new.self c.tick_part.new.recs c.tick_part.new.steps c.tick_part.result
+    c.requires.can c.begin.ensures c.own-own.ensures c.index_mut-part.ensures.value c.period-period.ensures.period (omega (arith, c.if-t-period-ne0.false)) e.long e.state e.ports e.records e.flag e.steps
