@@ -75,10 +75,12 @@ module _ {S : Type 0} where
     pub seen : new.rows.seen ≡ old.rows.seen
     pub wires : new.rows.wires ≡ old.rows.wires
     pub long : length new.rows.ports ≡ length old.rows.ports
-    pub others : (q : ℕ) → (Has (own_of mine.wiring i) q → ⊥) → port_at new.rows.ports q ≡ port_at old.rows.ports q
+    pub others : (q : ℕ) → (Has (own_of mine.wiring i) q → ⊥) → port_at new.rows.ports q
+        ≡ port_at old.rows.ports q
     pub room : new.recs.room ≡ old.recs.room
     pub records_are : new.recs.items
-        ≡ old.recs.items ++ records_at t (mine.first + i) (whats_of (given m (own_of mine.wiring i) i t old))
+        ≡ old.recs.items
+        ++ records_at t (mine.first + i) (whats_of (given m (own_of mine.wiring i) i t old))
     pub flag_is : flag ≡ flag_of (given m (own_of mine.wiring i) i t old)
     pub steps_are : new.steps ≡ old.steps + charge_of (given m (own_of mine.wiring i) i t old)
     pub gives_all : GivesAll m (own_of mine.wiring i) i t old

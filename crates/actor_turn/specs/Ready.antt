@@ -14,4 +14,6 @@ pub record IsReady (g : RowGear) (parts links : ℕ) (rows : RowsView) : Type 0 
   pub part_due : length g.part_due ≡ parts
   pub link_due : length g.link_due ≡ links
   pub hands_all : length g.hands.items ≡ parts
-  pub hands : (i : ℕ) → i < parts → length (slice_index_or g.hands.items i (record { ports = []; seen = [] })).ports ≡ length (own_of g.parts.wiring i)
+  pub hands : (i : ℕ) → i < parts
+      → length (slice_index_or g.hands.items i (record { ports = []; seen = [] })).ports
+      ≡ length (own_of g.parts.wiring i)

@@ -80,7 +80,8 @@ module _ {S : Type 0} where
     pub time : t ≤ LATEST_TIME
     pub room : length old.recs.items + 64 * length (own_of mine.wiring i) ≤ old.recs.room
     pub wakes : CanWake others (length old.rows.ports) old.next
-    pub sides : AreSides (length old.next) mine.first (length old.actors) others.first (length others.periods.items)
+    pub sides : AreSides (length old.next) mine.first (length old.actors) others.first
+        (length others.periods.items)
     pub few : mine.first + length old.actors < 2 ^ 32
 
   -- what an actor's own ports show its other side (true: parts, false: links) has woken those who see a change, and nobody else
@@ -93,16 +94,20 @@ module _ {S : Type 0} where
 
   -- actor i has had its turn at t: it has stepped, its next time is noted, those to whom its ports show something else are woken
   pub record HasTurned (m : Machine S) (part : Bool) (mine others : SideGear) (i t : ℕ) (old new : TurnState S) (flag : Bool) : Type 0 where
-    pub places_are : places_in new ≡ act_at m (own_of mine.wiring i) i t (places_in old) (slice_get (alls old.actors) i)
+    pub places_are : places_in new ≡ act_at m (own_of mine.wiring i) i t (places_in old)
+        (slice_get (alls old.actors) i)
     pub all_actors : length new.actors ≡ length old.actors
     pub wires : new.rows.wires ≡ old.rows.wires
     pub settled : new.rows.seen ≡ map face_of new.rows.ports
     pub long : length new.rows.ports ≡ length old.rows.ports
     pub room : new.recs.room ≡ old.recs.room
-    pub records_are : new.recs.items ≡ old.recs.items ++ records_at t (mine.first + i) (whats_of (given m (own_of mine.wiring i) i t (acting old)))
+    pub records_are : new.recs.items ≡ old.recs.items
+        ++ records_at t (mine.first + i) (whats_of (given m (own_of mine.wiring i) i t (acting old)))
     pub flag_is : flag ≡ flag_of (given m (own_of mine.wiring i) i t (acting old))
-    pub steps_are : new.steps ≡ old.steps + charge_of (given m (own_of mine.wiring i) i t (acting old))
+    pub steps_are : new.steps ≡ old.steps
+        + charge_of (given m (own_of mine.wiring i) i t (acting old))
     pub gives_all : GivesAll m (own_of mine.wiring i) i t (acting old)
     pub all_next : length new.next ≡ length old.next
-    pub own : own_next mine new ≡ slice_set (own_next mine old) i (next_seat_of m t flag (next_at_place (own_next mine old) i) (slice_get new.actors i))
+    pub own : own_next mine new ≡ slice_set (own_next mine old) i
+        (next_seat_of m t flag (next_at_place (own_next mine old) i) (slice_get new.actors i))
     pub woken_are : AreWoken part mine others i t old new

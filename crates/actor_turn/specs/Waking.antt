@@ -17,7 +17,8 @@ use Rattle.actor_turn.specs.Hit.{hit}
 
 -- the actors of one side can be woken, in a world of so many ports
 pub record CanWake (side : SideGear) (ports : ℕ) (next : List (Option Time)) : Type 0 where
-  pub wakes : Wakes side.wiring ports side.periods.items (half_of side.first (length side.periods.items) next)
+  pub wakes : Wakes side.wiring ports side.periods.items
+      (half_of side.first (length side.periods.items) next)
   pub here : side.first + length side.periods.items ≤ length next
   pub few : side.first + length side.periods.items < 2 ^ 32
 
@@ -38,5 +39,10 @@ pub record Waking (part : Bool) (own : List ℕ) (others : SideGear) (from : ℕ
   pub settled : (q : ℕ) → Has (take at own) q → face_at now.seen q ≡ face_of (port_at old.ports q)
   pub left : (q : ℕ) → (Has (take at own) q → ⊥) → face_at now.seen q ≡ face_at old.seen q
   pub all : length next ≡ length start
-  pub rest : (i : ℕ) → (i < others.first) ⊎ (others.first + length others.periods.items ≤ i) → time_of next i ≡ time_of start i
-  pub woken : IsTable (half_of others.first (length others.periods.items) next) (λ j. woken (any_of (hit (shows_other part old) (take at own)) (own_of others.wiring j)) (edge_of others from j) (next_at_place (half_of others.first (length others.periods.items) start) j)) (length others.periods.items)
+  pub rest : (i : ℕ) → (i < others.first) ⊎ (others.first + length others.periods.items ≤ i)
+      → time_of next i ≡ time_of start i
+  pub woken : IsTable (half_of others.first (length others.periods.items) next)
+      (λ j. woken (any_of (hit (shows_other part old) (take at own)) (own_of others.wiring j))
+      (edge_of others from j)
+      (next_at_place (half_of others.first (length others.periods.items) start) j))
+      (length others.periods.items)

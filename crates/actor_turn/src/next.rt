@@ -1,5 +1,6 @@
 //! Next times of actors: what a step leaves, and how it is noted.
 ghost use Rattle.std.specs.Prelude.{◌≡◌, ◌<◌, ◌≤◌, ◌||◌, length, slice_set};
+ghost use Rattle.sim_base.specs.declared.time.TheConstants.{LATEST_TICK};
 ghost use Rattle.event_queue.specs.NextTimes.{time_of};
 ghost use Rattle.actor_turn.specs.Next.{left_by};
 ghost use Rattle.model_laws.specs.SideTimes.{number_of, timed};
@@ -18,7 +19,7 @@ pub fn either(a: bool, b: bool) -> bool
 
 /// The next time that a step of this actor at `t` leaves, in picoseconds.
 pub fn next_of<S: Actor>(actor: &S, t: u64, flag: bool, old: Option<u64>) -> Option<u64>
-    requires time { t ≤ 501000000000 }
+    requires time { t ≤ LATEST_TICK }
     ensures { result ≡ left_by S.machine t flag old actor.now }
 {
     let period = actor.period();
@@ -72,7 +73,7 @@ pub fn note_next<S: Actor, L: Ledger>(
     looks: &mut Steps<L>,
 )
     requires there { who.0 < length next.old }
-    requires time { t ≤ 501000000000 }
+    requires time { t ≤ LATEST_TICK }
     ensures { next.new ≡ slice_set next.old who.0
         (timed (left_by S.machine t flag (number_of (time_of next.old who.0)) actor.now)) }
 {

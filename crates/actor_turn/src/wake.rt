@@ -1,5 +1,6 @@
 //! Owners of ports on the other side are woken by what their ports show.
 ghost use Rattle.std.specs.Prelude.{◌≡◌, ℕ, ◌<◌, ◌≤◌, length, slice_set, true, false};
+ghost use Rattle.sim_base.specs.declared.time.TheConstants.{LATEST_TICK};
 ghost use Rattle.tick_law.specs.Wires.{own_of, Has, AllApart};
 ghost use Rattle.tick_law.specs.Pass.{port_at};
 ghost use Rattle.port_row.specs.Row.{face_of, face_at};
@@ -24,7 +25,7 @@ fn wake_where<L: Ledger>(
 )
     requires port { port < length others.now.wiring.owner }
     requires wakes { CanWake others.now (length others.now.wiring.owner) next.old }
-    requires time { from ≤ 501000000000 }
+    requires time { from ≤ LATEST_TICK }
     ensures { next.new ≡ woken_by changed others.now port from next.old }
 {
     if changed {
@@ -65,7 +66,7 @@ pub fn wake_parts<L: Ledger>(
     requires apart { AllApart (own_of rows.old.wires link) }
     requires within { (q : ℕ) → Has (own_of rows.old.wires link) q → q < length rows.old.ports }
     requires wakes { CanWake parts.now (length rows.old.ports) next.old }
-    requires time { from ≤ 501000000000 }
+    requires time { from ≤ LATEST_TICK }
     ensures { Waking true (own_of rows.old.wires link) parts.now from rows.old next.old
         (length (own_of rows.old.wires link)) rows.new next.new }
 {
@@ -91,7 +92,7 @@ pub fn wake_links<L: Ledger>(
     requires apart { AllApart own.now }
     requires within { (q : ℕ) → Has own.now q → q < length rows.old.ports }
     requires wakes { CanWake links.now (length rows.old.ports) next.old }
-    requires time { from ≤ 501000000000 }
+    requires time { from ≤ LATEST_TICK }
     ensures { Waking false own.now links.now from rows.old next.old
         (length own.now) rows.new next.new }
 {

@@ -1,5 +1,6 @@
 -- What a pass over those that are due needs, and what it does.
 use Rattle.std.specs.Prelude.{◌≡◌, ℕ, ◌+◌, ◌*◌, ◌^◌, ◌<◌, ◌≤◌, ◌++◌, List, [], length, map, Bool, slice_index_or}
+use Rattle.sim_base.specs.declared.time.TheConstants.{LATEST_TIME}
 use Rattle.bit_set.specs.Bits.{is_in}
 use Rattle.tick_law.specs.Machine.{Machine}
 use Rattle.tick_law.specs.Wires.{Wires, own_of}
@@ -22,7 +23,9 @@ use Rattle.actor_turn.specs.Turn.{TurnState, side_in, places_in, own_next}
 -- a row in hand for each of so many parts, as long as the list of its own ports
 pub record FitHands (hands : List PortsView) (w : Wires) (count : ℕ) : Type 0 where
   pub all : length hands ≡ count
-  pub each : (i : ℕ) → i < count → length (slice_index_or hands i (record { ports = []; seen = [] })).ports ≡ length (own_of w i)
+  pub each : (i : ℕ) → i < count
+      → length (slice_index_or hands i (record { ports = []; seen = [] })).ports
+      ≡ length (own_of w i)
 
 module _ {S : Type 0} where
   -- whose next time is t
@@ -39,9 +42,10 @@ module _ {S : Type 0} where
     pub sound : IsSound m valid mine.wiring (side_in old)
     pub settled : old.rows.seen ≡ map face_of old.rows.ports
     pub enough : length old.recs.items + 64 * own_to mine.wiring (length old.actors) ≤ old.recs.room
-    pub time : t ≤ 500000000000
+    pub time : t ≤ LATEST_TIME
     pub wakes : CanWake others (length old.rows.ports) old.next
-    pub sides : AreSides (length old.next) mine.first (length old.actors) others.first (length others.periods.items)
+    pub sides : AreSides (length old.next) mine.first (length old.actors) others.first
+        (length others.periods.items)
     pub few : mine.first + length old.actors < 2 ^ 32
 
   -- each actor's next time is the one that its step leaves
@@ -61,7 +65,8 @@ module _ {S : Type 0} where
 
   -- the pass of those that are due at t is over
   pub record HasPassed (m : Machine S) (part : Bool) (mine others : SideGear) (t : ℕ) (old new : TurnState S) (flag : Bool) : Type 0 where
-    pub places_are : places_in new ≡ whole_side (pass m mine.wiring (is_due mine t old) t (side_in old))
+    pub places_are : places_in new
+        ≡ whole_side (pass m mine.wiring (is_due mine t old) t (side_in old))
     pub all_actors : length new.actors ≡ length old.actors
     pub noted : AreNoted m mine t old new
     pub woken_are : HasWoken part others t old new
@@ -69,6 +74,8 @@ module _ {S : Type 0} where
     pub wires : new.rows.wires ≡ old.rows.wires
     pub settled : new.rows.seen ≡ map face_of new.rows.ports
     pub room : new.recs.room ≡ old.recs.room
-    pub records_are : new.recs.items ≡ old.recs.items ++ records m mine.wiring (is_due mine t old) t (side_in old) mine.first
+    pub records_are : new.recs.items
+        ≡ old.recs.items ++ records m mine.wiring (is_due mine t old) t (side_in old) mine.first
     pub flag_is : flag ≡ stirs m mine.wiring (is_due mine t old) t (side_in old)
-    pub steps_are : new.steps ≡ old.steps + steps_of m mine.wiring (is_due mine t old) t (side_in old)
+    pub steps_are : new.steps
+        ≡ old.steps + steps_of m mine.wiring (is_due mine t old) t (side_in old)

@@ -1,5 +1,6 @@
 //! One time of the sleeping engine, over ports in rows.
 ghost use Rattle.std.specs.Prelude.{◌≡◌, ℕ, ◌+◌, ◌*◌, ◌≤◌, ◌++◌, length};
+ghost use Rattle.sim_base.specs.declared.time.TheConstants.{LATEST_TIME};
 ghost use Rattle.tick_law.specs.SerialLoop.{records_at_time, stirs_at};
 ghost use Rattle.tick_law.specs.Verdict.{awake_now};
 ghost use Rattle.model_laws.specs.Outcome.{own_to};
@@ -37,7 +38,7 @@ pub fn due_time<P: Actor + Drop, N: Actor + Drop, C: Charter<P, N>, L: Ledger, M
         (times_of gear.old.parts gear.old.next) (times_of gear.old.links gear.old.next) }
     requires ready { IsReady gear.old (length world.old.parts.items)
         (length world.old.links.items) world.old.rows }
-    requires time { t ≤ 500000000000 }
+    requires time { t ≤ LATEST_TIME }
     requires room { length gear.old.recs.items
         + 64 * (own_to gear.old.parts.wiring (length C.start.world.parts)
         + own_to gear.old.links.wiring (length C.start.world.links)) ≤ gear.old.recs.room }

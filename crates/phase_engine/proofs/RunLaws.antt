@@ -2,6 +2,7 @@
 use Rattle.std.proofs.Common.{◌≡◌, ℕ, ◌+◌, ◌-◌, ◌<◌, ◌≤◌, ◌⊎◌, inl, inr, List, [], ◌∷◌, ◌++◌, length, zero, suc, sym, ◌∙◌, ap, subst, arith, refl}
 use Rattle.std.specs.Prelude.{Option, Some, None, Bool}
 use Rattle.std.proofs.lemmas.List.{append_assoc, append-nil}
+use Rattle.sim_base.specs.declared.time.TheConstants.{LATEST_TIME}
 use Rattle.sim_base.specs.declared.time.Time.{Time}
 use Rattle.sim_io.specs.Sink.{Got, GotPrefix}
 use Rattle.event_queue.specs.NextTimes.{time_of}
@@ -45,7 +46,7 @@ none_below first n e times none = record {
 
 module _ {P N : Type 0} where
   -- from a boundary to the next time at which somebody is due
-  pub to_due : (r : System P N) (vp : P → Type 0) (vn : N → Type 0) (d e : ℕ) (world : WorldPlaces P N) (times : List (Option Time)) (first n m : ℕ) → IsSetUp r vp vn → d ≤ e → e ≤ 500000000001 → (d < e → (i : ℕ) (t : Time) → time_of times i ≡ Some t → e ≤ t.0) → IsBoundary r d world (half_of first n times) (half_of n m times) → Reached r d e world (half_of first n times) (half_of n m times)
+  pub to_due : (r : System P N) (vp : P → Type 0) (vn : N → Type 0) (d e : ℕ) (world : WorldPlaces P N) (times : List (Option Time)) (first n m : ℕ) → IsSetUp r vp vn → d ≤ e → e ≤ LATEST_TIME + 1 → (d < e → (i : ℕ) (t : Time) → time_of times i ≡ Some t → e ≤ t.0) → IsBoundary r d world (half_of first n times) (half_of n m times) → Reached r d e world (half_of first n times) (half_of n m times)
   to_due r vp vn d e world times first n m up l b none was =
       jump_to r vp vn d e world (half_of first n times) (half_of n m times) up l b (λ x. none_below first n e times (none x)) (λ x. none_below n m e times (none x)) was
 

@@ -26,9 +26,11 @@ module _ {P N : Type 0} where
   pub record IsRunGear (mp : Machine P) (mn : Machine N) (vp : P → Type 0) (vn : N → Type 0) (plan : PlanView P N) (start : Start P N) (w : World P N) (g : RowGear) : Type 0 where
     pub part_wires_are : g.parts.wiring ≡ part_wires plan
     pub link_wires_are : g.links.wiring ≡ link_wires plan
-    pub fitted : Fitted (system_from mp mn plan start) vp vn g.recs.room g.recs.room g.parts.periods.items g.links.periods.items
+    pub fitted : Fitted (system_from mp mn plan start) vp vn g.recs.room g.recs.room
+        g.parts.periods.items g.links.periods.items
     pub ready : IsReady g (length w.parts.items) (length w.links.items) w.rows
-    pub enough : 64 * (own_to (part_wires plan) (length start.world.parts) + own_to (link_wires plan) (length start.world.links)) ≤ g.recs.room
+    pub enough : 64 * (own_to (part_wires plan) (length start.world.parts)
+        + own_to (link_wires plan) (length start.world.links)) ≤ g.recs.room
 
   -- each item of a world in its place
   abbrev pub places_of : World P N → WorldPlaces P N
@@ -36,9 +38,14 @@ module _ {P N : Type 0} where
 
   -- the world is the serial loop's at boundary d, and the next times of all actors, the parts' first, are the run's there
   abbrev pub IsAt : Machine P → Machine N → PlanView P N → Start P N → ℕ → World P N → List (Option Time) → Type 0
-  IsAt mp mn plan start d w next = IsBoundary (system_from mp mn plan start) d (places_of w) (half_of 0 (length start.world.parts) next) (half_of (length start.world.parts) (length start.world.links) next)
+  IsAt mp mn plan start d w next =
+      IsBoundary (system_from mp mn plan start) d (places_of w)
+      (half_of 0 (length start.world.parts) next)
+      (half_of (length start.world.parts) (length start.world.links) next)
 
   -- the next times of all actors, the parts' first, are the run's at boundary d
   pub record AreNextTimes (r : System P N) (d : ℕ) (next : List (Option Time)) : Type 0 where
-    pub parts_are : IsTable (half_of 0 (length r.start.world.parts) next) (part_next r d) (length r.start.world.parts)
-    pub links_are : IsTable (half_of (length r.start.world.parts) (length r.start.world.links) next) (link_next r d) (length r.start.world.links)
+    pub parts_are : IsTable (half_of 0 (length r.start.world.parts) next) (part_next r d)
+        (length r.start.world.parts)
+    pub links_are : IsTable (half_of (length r.start.world.parts) (length r.start.world.links) next)
+        (link_next r d) (length r.start.world.links)

@@ -28,7 +28,10 @@ pub fn advance_due<P: Actor + Drop, N: Actor + Drop, C: Charter<P, N>, L: Ledger
 
     ensures run { IsRun P.machine N.machine P.valid N.valid C.plan C.start run.new }
     ensures at { run.new.at ≡ upto }
-    ensures steps { steps.new + awake_below (system_from P.machine N.machine C.plan C.start) run.old.at ≡ steps.old + awake_below (system_from P.machine N.machine C.plan C.start) upto }
+    ensures steps { steps.new
+        + awake_below (system_from P.machine N.machine C.plan C.start) run.old.at
+        ≡ steps.old
+        + awake_below (system_from P.machine N.machine C.plan C.start) upto }
 {
     let mut looks = Steps::<M>::open(blank);
     let mut t = next_due(&run.gear.next, run.at, upto, &mut looks);

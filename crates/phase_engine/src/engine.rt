@@ -1,11 +1,10 @@
 ghost use Rattle.std.specs.Prelude.{◌≡◌, ◌+◌, ◌≤◌, false, is_some, IfOk, IfErr, OnOk};
-ghost use Rattle.sim_io.specs.Sink.{Rose, Got, GotPrefix};
+ghost use Rattle.sim_io.specs.Sink.{Rose};
 ghost use Rattle.port_rows.specs.World.{state_of};
-ghost use Rattle.tick_law.specs.SerialLoop.{world_at, records_below, end_below};
+ghost use Rattle.tick_law.specs.SerialLoop.{world_at, end_below};
 ghost use Rattle.tick_law.specs.PlanView.{opening, system_from};
 ghost use Rattle.tick_law.specs.Verdict.{verdict_at, awake_below};
-ghost use Rattle.trace_out.specs.Lines.{lines_of};
-ghost use Rattle.run_gear.specs.PlanNames.{names_of};
+ghost use Rattle.run_gear.specs.Written.{GotLines, GotSomeLines};
 ghost use Rattle.phase_engine.specs.RunGear.{AreNextTimes};
 
 use crate::advance::advance_due;
@@ -48,8 +47,10 @@ impl<P: Actor + Drop, N: Actor + Drop, C: Charter<P, N>> Engine<P, N, C> {
         requires plan { plan ≡ C.plan }
         requires start { C.start ≡ opening C.plan }
         ensures boundary { IfOk result (λ e. e.at ≡ 0) }
-        ensures world { IfOk result (λ e. e.world ≡ world_at (system_from P.machine N.machine C.plan C.start) 0) }
-        ensures times { IfOk result (λ e. AreNextTimes (system_from P.machine N.machine C.plan C.start) 0 e.next) }
+        ensures world { IfOk result
+            (λ e. e.world ≡ world_at (system_from P.machine N.machine C.plan C.start) 0) }
+        ensures times { IfOk result
+            (λ e. AreNextTimes (system_from P.machine N.machine C.plan C.start) 0 e.next) }
     {
         let run = open_due::<P, N, C, Brand>(alloc, plan, Blank::new(1))?;
         Ok(Engine {
@@ -70,19 +71,28 @@ impl<P: Actor + Drop, N: Actor + Drop, C: Charter<P, N>> Engine<P, N, C> {
         requires beginning { self.old.at ≡ C.start.at }
         requires out_only { all ≡ false }
 
-        ensures verdict { IfOk result (λ v. v ≡ verdict_at (system_from P.machine N.machine C.plan C.start) C.plan.until) }
+        ensures verdict { IfOk result
+            (λ v. v ≡ verdict_at (system_from P.machine N.machine C.plan C.start) C.plan.until) }
         ensures to_end { OnOk result (self.new.at ≡ C.plan.until + 1) }
-        ensures lines { OnOk result (Got (K.told sink.old) (K.told sink.new) (lines_of (names_of C.plan) all (records_below (system_from P.machine N.machine C.plan C.start) (C.plan.until + 1)))) }
+        ensures lines { OnOk result (GotLines C.plan
+            (system_from P.machine N.machine C.plan C.start) all (C.plan.until + 1)
+            (K.told sink.old) (K.told sink.new)) }
 
         ensures upto { IfErr result (λ f. f.upto.0 ≡ self.new.at) }
         ensures fault { IfErr result (λ f. Rose (K.faults sink.old) (K.faults sink.new)) }
-        ensures prefix { IfErr result (λ f. GotPrefix (K.told sink.old) (K.told sink.new) (lines_of (names_of C.plan) all (records_below (system_from P.machine N.machine C.plan C.start) f.upto.0))) }
+        ensures prefix { IfErr result (λ f. GotSomeLines C.plan
+            (system_from P.machine N.machine C.plan C.start) all f.upto.0 (K.told sink.old)
+            (K.told sink.new)) }
 
         ensures within { self.new.at ≤ C.plan.until + 1 }
-        ensures world { self.new.world ≡ world_at (system_from P.machine N.machine C.plan C.start) self.new.at }
-        ensures times { AreNextTimes (system_from P.machine N.machine C.plan C.start) self.new.at self.new.next }
-        ensures end { self.new.end ≡ end_below (system_from P.machine N.machine C.plan C.start) self.new.at }
-        ensures steps { steps.new ≡ steps.old + awake_below (system_from P.machine N.machine C.plan C.start) self.new.at }
+        ensures world { self.new.world
+            ≡ world_at (system_from P.machine N.machine C.plan C.start) self.new.at }
+        ensures times { AreNextTimes
+            (system_from P.machine N.machine C.plan C.start) self.new.at self.new.next }
+        ensures end { self.new.end
+            ≡ end_below (system_from P.machine N.machine C.plan C.start) self.new.at }
+        ensures steps { steps.new ≡ steps.old
+            + awake_below (system_from P.machine N.machine C.plan C.start) self.new.at }
         ensures never_falls { K.faults sink.old ≤ K.faults sink.new }
         ensures telling { is_some (K.told sink.new) ≡ is_some (K.told sink.old) }
     {
@@ -100,10 +110,16 @@ impl<P: Actor + Drop, N: Actor + Drop, C: Charter<P, N>> Engine<P, N, C> {
         requires within { t.0 ≤ C.plan.until }
 
         ensures boundary { self.new.at ≡ t.0 + 1 }
-        ensures world { self.new.world ≡ world_at (system_from P.machine N.machine C.plan C.start) (t.0 + 1) }
-        ensures times { AreNextTimes (system_from P.machine N.machine C.plan C.start) (t.0 + 1) self.new.next }
-        ensures end { self.new.end ≡ end_below (system_from P.machine N.machine C.plan C.start) (t.0 + 1) }
-        ensures steps { steps.new + awake_below (system_from P.machine N.machine C.plan C.start) self.old.at ≡ steps.old + awake_below (system_from P.machine N.machine C.plan C.start) (t.0 + 1) }
+        ensures world { self.new.world ≡ world_at (system_from P.machine N.machine C.plan C.start)
+            (t.0 + 1) }
+        ensures times { AreNextTimes (system_from P.machine N.machine C.plan C.start)
+            (t.0 + 1) self.new.next }
+        ensures end { self.new.end ≡ end_below (system_from P.machine N.machine C.plan C.start)
+            (t.0 + 1) }
+        ensures steps { steps.new
+            + awake_below (system_from P.machine N.machine C.plan C.start) self.old.at
+            ≡ steps.old
+            + awake_below (system_from P.machine N.machine C.plan C.start) (t.0 + 1) }
     {
         advance_due::<P, N, C, L, Brand>(&mut self.run, t.0 + 1, steps, Blank::new(1));
     }
@@ -111,7 +127,8 @@ impl<P: Actor + Drop, N: Actor + Drop, C: Charter<P, N>> Engine<P, N, C> {
     /// The world at the engine's boundary.
     pub fn world(&self) -> &World<P, N>
         ensures value { state_of result.now ≡ self.now.world }
-        ensures serial { state_of result.now ≡ world_at (system_from P.machine N.machine C.plan C.start) self.now.at }
+        ensures serial { state_of result.now
+            ≡ world_at (system_from P.machine N.machine C.plan C.start) self.now.at }
     {
         &self.run.world
     }
@@ -119,7 +136,8 @@ impl<P: Actor + Drop, N: Actor + Drop, C: Charter<P, N>> Engine<P, N, C> {
     /// The last time below the boundary at which an actor made progress, or 0, in picoseconds.
     pub fn end_time(&self) -> Time
         ensures value { result.0 ≡ self.now.end }
-        ensures serial { result.0 ≡ end_below (system_from P.machine N.machine C.plan C.start) self.now.at }
+        ensures serial { result.0
+            ≡ end_below (system_from P.machine N.machine C.plan C.start) self.now.at }
     {
         Time(self.run.end)
     }

@@ -1,4 +1,5 @@
 ghost use Rattle.std.specs.Prelude.{◌≡◌, ◌+◌, ◌≤◌};
+ghost use Rattle.sim_base.specs.declared.time.TheConstants.{LATEST_TIME};
 ghost use Rattle.tick_law.specs.SerialLoop.{records_at_time, stirs_at};
 ghost use Rattle.tick_law.specs.PlanView.{system_from};
 ghost use Rattle.tick_law.specs.Verdict.{awake_now};
@@ -22,13 +23,15 @@ pub fn one_time<P: Actor + Drop, N: Actor + Drop, C: Charter<P, N>, L: Ledger, M
     requires gear { IsRunGear P.machine N.machine P.valid N.valid C.plan C.start world.old gear.old }
     requires at { IsAt P.machine N.machine C.plan C.start t world.old gear.old.next }
     requires due { IsDueBy gear.old.next t }
-    requires time { t ≤ 500000000000 }
+    requires time { t ≤ LATEST_TIME }
 
     ensures gear { IsRunGear P.machine N.machine P.valid N.valid C.plan C.start world.new gear.new }
     ensures at { IsAt P.machine N.machine C.plan C.start (t + 1) world.new gear.new.next }
-    ensures records { gear.new.recs.items ≡ records_at_time (system_from P.machine N.machine C.plan C.start) t }
+    ensures records { gear.new.recs.items
+        ≡ records_at_time (system_from P.machine N.machine C.plan C.start) t }
     ensures flag { result ≡ stirs_at (system_from P.machine N.machine C.plan C.start) t }
-    ensures steps { steps.new ≡ steps.old + awake_now (system_from P.machine N.machine C.plan C.start) t }
+    ensures steps { steps.new ≡ steps.old
+        + awake_now (system_from P.machine N.machine C.plan C.start) t }
 {
     gear.recs.clear();
     due_time::<P, N, C, L, M>(world, gear, t, steps, looks)

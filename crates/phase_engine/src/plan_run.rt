@@ -1,11 +1,9 @@
 ghost use Rattle.std.specs.Prelude.{◌≡◌, ◌≢◌, ◌+◌, ◌≤◌, Err, false, IfOk, OnOk};
-ghost use Rattle.sim_io.specs.Sink.{Rose, Got, GotPrefix};
 ghost use Rattle.port_rows.specs.World.{state_of};
-ghost use Rattle.tick_law.specs.SerialLoop.{world_at, records_below};
+ghost use Rattle.tick_law.specs.SerialLoop.{world_at};
 ghost use Rattle.tick_law.specs.PlanView.{opening, system_from, system_of};
 ghost use Rattle.tick_law.specs.Verdict.{verdict_at, end_at, awake_below};
-ghost use Rattle.trace_out.specs.Lines.{lines_of};
-ghost use Rattle.run_gear.specs.PlanNames.{names_of};
+ghost use Rattle.run_gear.specs.Written.{GotLines, IsCut};
 ghost use Rattle.run_gear.specs.declared.fault.TraceFault.{TraceFault};
 
 use crate::engine::Engine;
@@ -28,14 +26,25 @@ fn run_of<P: Actor + Drop, N: Actor + Drop, C: Charter<P, N>, K: Sink, L: Ledger
     requires start { C.start ≡ opening C.plan }
     requires out_only { all ≡ false }
 
-    ensures world { IfOk result (λ e. state_of e.world ≡ world_at (system_from P.machine N.machine C.plan C.start) (C.plan.until + 1)) }
-    ensures verdict { IfOk result (λ e. e.verdict ≡ verdict_at (system_from P.machine N.machine C.plan C.start) C.plan.until) }
-    ensures end { IfOk result (λ e. e.end.0 ≡ end_at (system_from P.machine N.machine C.plan C.start) C.plan.until) }
-    ensures steps { OnOk result (steps.new ≡ steps.old + awake_below (system_from P.machine N.machine C.plan C.start) (C.plan.until + 1)) }
-    ensures lines { OnOk result (Got (K.told sink.old) (K.told sink.new) (lines_of (names_of C.plan) all (records_below (system_from P.machine N.machine C.plan C.start) (C.plan.until + 1)))) }
-    ensures fault { (f : TraceFault) → result ≡ Err (RunFault.Trace f) → (f.upto.0 ≤ C.plan.until + 1) × Rose (K.faults sink.old) (K.faults sink.new) × GotPrefix (K.told sink.old) (K.told sink.new) (lines_of (names_of C.plan) all (records_below (system_from P.machine N.machine C.plan C.start) f.upto.0)) }
-    ensures fault_steps { (f : TraceFault) → result ≡ Err (RunFault.Trace f) → steps.new ≡ steps.old + awake_below (system_from P.machine N.machine C.plan C.start) f.upto.0 }
-    ensures memory { result ≡ Err RunFault.OutOfMemory → (sink.new ≡ sink.old) × (steps.new ≡ steps.old) }
+    ensures world { IfOk result (λ e. state_of e.world
+        ≡ world_at (system_from P.machine N.machine C.plan C.start) (C.plan.until + 1)) }
+    ensures verdict { IfOk result
+        (λ e. e.verdict
+        ≡ verdict_at (system_from P.machine N.machine C.plan C.start) C.plan.until) }
+    ensures end { IfOk result (λ e. e.end.0
+        ≡ end_at (system_from P.machine N.machine C.plan C.start) C.plan.until) }
+    ensures steps { OnOk result (steps.new ≡ steps.old
+        + awake_below (system_from P.machine N.machine C.plan C.start) (C.plan.until + 1)) }
+    ensures lines { OnOk result (GotLines C.plan
+        (system_from P.machine N.machine C.plan C.start) all (C.plan.until + 1) (K.told sink.old)
+        (K.told sink.new)) }
+    ensures fault { (f : TraceFault) → result ≡ Err (RunFault.Trace f) → IsCut C.plan
+        (system_from P.machine N.machine C.plan C.start) all f.upto.0 (K.faults sink.old)
+        (K.faults sink.new) (K.told sink.old) (K.told sink.new) }
+    ensures fault_steps { (f : TraceFault) → result ≡ Err (RunFault.Trace f) → steps.new
+        ≡ steps.old + awake_below (system_from P.machine N.machine C.plan C.start) f.upto.0 }
+    ensures memory { result ≡ Err RunFault.OutOfMemory → (sink.new ≡ sink.old)
+        × (steps.new ≡ steps.old) }
     ensures never_falls { K.faults sink.old ≤ K.faults sink.new }
 {
     let mut engine = Engine::<P, N, C>::open(alloc, plan)?;
@@ -64,14 +73,23 @@ pub fn run_plan<P: Actor + Drop, N: Actor + Drop, K: Sink, L: Ledger>(
 ) -> Result<Ending<P, N>, RunFault>
     requires out_only { all ≡ false }
 
-    ensures world { IfOk result (λ e. state_of e.world ≡ world_at (system_of P.machine N.machine plan) (plan.until + 1)) }
-    ensures verdict { IfOk result (λ e. e.verdict ≡ verdict_at (system_of P.machine N.machine plan) plan.until) }
-    ensures end { IfOk result (λ e. e.end.0 ≡ end_at (system_of P.machine N.machine plan) plan.until) }
-    ensures steps { OnOk result (steps.new ≡ steps.old + awake_below (system_of P.machine N.machine plan) (plan.until + 1)) }
-    ensures lines { OnOk result (Got (K.told sink.old) (K.told sink.new) (lines_of (names_of plan) all (records_below (system_of P.machine N.machine plan) (plan.until + 1)))) }
-    ensures fault { (f : TraceFault) → result ≡ Err (RunFault.Trace f) → (f.upto.0 ≤ plan.until + 1) × Rose (K.faults sink.old) (K.faults sink.new) × GotPrefix (K.told sink.old) (K.told sink.new) (lines_of (names_of plan) all (records_below (system_of P.machine N.machine plan) f.upto.0)) }
-    ensures fault_steps { (f : TraceFault) → result ≡ Err (RunFault.Trace f) → steps.new ≡ steps.old + awake_below (system_of P.machine N.machine plan) f.upto.0 }
-    ensures memory { result ≡ Err RunFault.OutOfMemory → (sink.new ≡ sink.old) × (steps.new ≡ steps.old) }
+    ensures world { IfOk result
+        (λ e. state_of e.world ≡ world_at (system_of P.machine N.machine plan) (plan.until + 1)) }
+    ensures verdict { IfOk result
+        (λ e. e.verdict ≡ verdict_at (system_of P.machine N.machine plan) plan.until) }
+    ensures end { IfOk result
+        (λ e. e.end.0 ≡ end_at (system_of P.machine N.machine plan) plan.until) }
+    ensures steps { OnOk result (steps.new ≡ steps.old
+        + awake_below (system_of P.machine N.machine plan) (plan.until + 1)) }
+    ensures lines { OnOk result (GotLines plan (system_of P.machine N.machine plan) all
+        (plan.until + 1) (K.told sink.old) (K.told sink.new)) }
+    ensures fault { (f : TraceFault) → result ≡ Err (RunFault.Trace f) → IsCut plan
+        (system_of P.machine N.machine plan) all f.upto.0 (K.faults sink.old) (K.faults sink.new)
+        (K.told sink.old) (K.told sink.new) }
+    ensures fault_steps { (f : TraceFault) → result ≡ Err (RunFault.Trace f) → steps.new
+        ≡ steps.old + awake_below (system_of P.machine N.machine plan) f.upto.0 }
+    ensures memory { result ≡ Err RunFault.OutOfMemory → (sink.new ≡ sink.old)
+        × (steps.new ≡ steps.old) }
     ensures never_falls { K.faults sink.old ≤ K.faults sink.new }
 {
     run_of::<P, N, Brand, K, L>(alloc, plan, sink, all, steps)

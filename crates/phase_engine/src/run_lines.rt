@@ -1,10 +1,8 @@
 ghost use Rattle.std.specs.Prelude.{◌≡◌, ◌+◌, ◌<◌, ◌≤◌, true, false, is_some};
-ghost use Rattle.sim_io.specs.Sink.{Rose, Got, GotPrefix};
+ghost use Rattle.sim_io.specs.Sink.{Rose};
 ghost use Rattle.tick_law.specs.PlanView.{system_from};
 ghost use Rattle.tick_law.specs.Verdict.{awake_below};
-ghost use Rattle.trace_out.specs.Lines.{lines_of};
-ghost use Rattle.phase_engine.specs.Between.{records_between};
-ghost use Rattle.run_gear.specs.PlanNames.{names_of};
+ghost use Rattle.phase_engine.specs.Between.{GotBetween, GotSomeBetween};
 ghost use Rattle.phase_engine.specs.Run.{IsRun};
 
 use crate::next_due::next_due;
@@ -35,11 +33,18 @@ pub fn run_due<P: Actor + Drop, N: Actor + Drop, C: Charter<P, N>, K: Sink, L: L
 
     ensures run { IsRun P.machine N.machine P.valid N.valid C.plan C.start run.new }
     ensures onward { run.old.at ≤ run.new.at }
-    ensures steps { steps.new + awake_below (system_from P.machine N.machine C.plan C.start) run.old.at ≡ steps.old + awake_below (system_from P.machine N.machine C.plan C.start) run.new.at }
+    ensures steps { steps.new
+        + awake_below (system_from P.machine N.machine C.plan C.start) run.old.at
+        ≡ steps.old
+        + awake_below (system_from P.machine N.machine C.plan C.start) run.new.at }
     ensures to_end { result ≡ true → run.new.at ≡ C.plan.until + 1 }
-    ensures whole { result ≡ true → Got (K.told sink.old) (K.told sink.new) (lines_of (names_of C.plan) all (records_between (system_from P.machine N.machine C.plan C.start) run.old.at run.new.at)) }
+    ensures whole { result ≡ true → GotBetween C.plan
+        (system_from P.machine N.machine C.plan C.start) all run.old.at run.new.at
+        (K.told sink.old) (K.told sink.new) }
     ensures fault { result ≡ false → Rose (K.faults sink.old) (K.faults sink.new) }
-    ensures prefix { result ≡ false → GotPrefix (K.told sink.old) (K.told sink.new) (lines_of (names_of C.plan) all (records_between (system_from P.machine N.machine C.plan C.start) run.old.at run.new.at)) }
+    ensures prefix { result ≡ false → GotSomeBetween C.plan
+        (system_from P.machine N.machine C.plan C.start) all run.old.at run.new.at
+        (K.told sink.old) (K.told sink.new) }
     ensures never_falls { K.faults sink.old ≤ K.faults sink.new }
     ensures telling { is_some (K.told sink.new) ≡ is_some (K.told sink.old) }
 {

@@ -3,6 +3,7 @@ use Rattle.std.proofs.Common.{◌≡◌, ℕ, ◌+◌, ◌%◌, ◌<◌, ◌≤�
 use Rattle.std.specs.Prelude.{Option, Some, None, ◌||◌}
 use Rattle.std.proofs.lemmas.List.{length-replicate, take-append-le}
 use Rattle.std.proofs.Math.Seq.{take-length}
+use Rattle.sim_base.specs.declared.time.TheConstants.{LATEST_TIME}
 use Rattle.tick_law.specs.Machine.{Machine}
 use Rattle.tick_law.specs.Wires.{Wires}
 use Rattle.tick_law.specs.WorldPlaces.{WorldPlaces, somes, IsFull}
@@ -75,7 +76,7 @@ module _ {P N : Type 0} where
   pub parts_full : (r : System P N) (d : ℕ) (world : WorldPlaces P N) (parts links : List (Option ℕ)) → IsBoundary r d world parts links → IsFull world.parts
   parts_full r d world parts links was = subst (λ x. IsFull x) (sym (ap (λ (x : WorldPlaces P N). x.parts) was.world_is)) (alls_full (world_at r d).parts)
 
-  pub world_counts : (r : System P N) (vp : P → Type 0) (vn : N → Type 0) (d : ℕ) (world : WorldPlaces P N) (parts links : List (Option ℕ)) → IsSetUp r vp vn → d ≤ 500000000001 → IsBoundary r d world parts links →
+  pub world_counts : (r : System P N) (vp : P → Type 0) (vn : N → Type 0) (d : ℕ) (world : WorldPlaces P N) (parts links : List (Option ℕ)) → IsSetUp r vp vn → d ≤ LATEST_TIME + 1 → IsBoundary r d world parts links →
       (length world.parts ≡ length r.start.world.parts) × (length world.links ≡ length r.start.world.links) × (length world.ports ≡ length r.start.world.ports)
   world_counts r vp vn d world parts links up l was =
       let good = world_good r vp vn d up (omega arith) in

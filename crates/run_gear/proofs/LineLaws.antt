@@ -5,6 +5,7 @@ use Rattle.std.proofs.Math.Seq.{take-append_seam}
 use Rattle.std.proofs.lemmas.List.{take-append-drop, append_assoc, append-nil}
 use Rattle.std.proofs.lemmas.List.Elements.{All-nil, All-append, All-map}
 use Rattle.std.proofs.lemmas.Grind.{flat_map-append}
+use Rattle.sim_base.specs.declared.time.TheConstants.{LATEST_TICK}
 use Rattle.port_msg.specs.RecView.{records_at, record_of}
 use Rattle.port_msg.specs.declared.records.Record.{Record}
 use Rattle.sim_io.specs.Sink.{Rose, Got, GotPrefix}
@@ -58,7 +59,7 @@ actors_in m w stepped t h base (suc n) most b =
 
 module _ {P N : Type 0} where
   -- each record of a time is of an actor that is there
-  pub known_actors : (r : System P N) (vp : P → Type 0) (vn : N → Type 0) (t most : ℕ) → IsSetUp r vp vn → t ≤ 501000000001 → most ≡ length r.start.world.parts + length r.start.world.links → All (λ (x : Record). x.actor.0 < most) (records_at_time r t)
+  pub known_actors : (r : System P N) (vp : P → Type 0) (vn : N → Type 0) (t most : ℕ) → IsSetUp r vp vn → t ≤ LATEST_TICK + 1 → most ≡ length r.start.world.parts + length r.start.world.links → All (λ (x : Record). x.actor.0 < most) (records_at_time r t)
   known_actors r vp vn t most up l e =
       let good = world_good r vp vn t up l in
       let parts : length (world_at r t).parts ≡ length r.start.world.parts = good.part_count in

@@ -1,6 +1,7 @@
 -- The gear of a plan is fit for its run.
 use Rattle.std.proofs.Common.{◌≡◌, ℕ, ◌+◌, ◌*◌, ◌^◌, ◌<◌, ◌≤◌, List, [], ◌∷◌, length, map, get_or, zero, suc, sym, ◌∙◌, ap, subst, arith, refl, length-take, length-drop}
 use Rattle.std.specs.Prelude.{Some, slice_get, true, false}
+use Rattle.sim_base.specs.declared.time.TheConstants.{LONGEST_PERIOD}
 use Rattle.port_msg.specs.PortView.{PortView, port_view}
 use Rattle.tick_law.specs.Machine.{Machine}
 use Rattle.tick_law.specs.Frame.{IsPort}
@@ -31,7 +32,7 @@ start_port plans caps q p e =
     let b = map_back (λ (x : PortPlan). port_view [] [] x.cap) plans q p e in
     subst IsPort (sym b.2) (omega arith, omega arith, (caps q b.0 b.1).1)
 
-period_here : {S : Type 0} (m : Machine S) (valid : S → Type 0) (xs : List S) (i : ℕ) → ((j : ℕ) (s : S) → slice_get xs j ≡ Some s → valid s) → ((s : S) → valid s → (0 < m.period s) × (m.period s ≤ 1000000000)) → i < length xs → (get_or (map m.period xs) i 0 ≡ period_at m (slice_get xs i)) × (0 < get_or (map m.period xs) i 0) × (get_or (map m.period xs) i 0 ≤ 1000000000)
+period_here : {S : Type 0} (m : Machine S) (valid : S → Type 0) (xs : List S) (i : ℕ) → ((j : ℕ) (s : S) → slice_get xs j ≡ Some s → valid s) → ((s : S) → valid s → (0 < m.period s) × (m.period s ≤ LONGEST_PERIOD)) → i < length xs → (get_or (map m.period xs) i 0 ≡ period_at m (slice_get xs i)) × (0 < get_or (map m.period xs) i 0) × (get_or (map m.period xs) i 0 ≤ LONGEST_PERIOD)
 period_here m valid [] i v within b = absurd (omega arith)
 period_here m valid (x ∷ xs) zero v within b = let w = within x (v 0 x refl) in (refl, w.0, w.1)
 period_here m valid (x ∷ xs) (suc i) v within b = period_here m valid xs i (λ j s e. v (suc j) s e) within (omega arith)
@@ -92,11 +93,11 @@ module _ {P N : Type 0} where
     link_owner = length-map (λ (p : PortPlan). p.link.0) plan.ports ∙ sym (port_count plan);
     part_count = ap length pe ∙ length-map mp.period plan.parts;
     link_count = ap length le ∙ length-map mn.period plan.links;
-    part_period = λ i b. subst (λ l. (get_or l i 0 ≡ period (part_course (system_of mp mn plan)) i) × (0 < get_or l i 0) × (get_or l i 0 ≤ 1000000000)) (sym pe) (period_here mp vp plan.parts i kp laws_p.period b);
-    link_period = λ i b. subst (λ l. (get_or l i 0 ≡ period (link_course (system_of mp mn plan)) i) × (0 < get_or l i 0) × (get_or l i 0 ≤ 1000000000)) (sym le) (link_period_here i b);
+    part_period = λ i b. subst (λ l. (get_or l i 0 ≡ period (part_course (system_of mp mn plan)) i) × (0 < get_or l i 0) × (get_or l i 0 ≤ LONGEST_PERIOD)) (sym pe) (period_here mp vp plan.parts i kp laws_p.period b);
+    link_period = λ i b. subst (λ l. (get_or l i 0 ≡ period (link_course (system_of mp mn plan)) i) × (0 < get_or l i 0) × (get_or l i 0 ≤ LONGEST_PERIOD)) (sym le) (link_period_here i b);
   }
     where
-      link_period_here : (i : ℕ) → i < length plan.links → (get_or (map mn.period plan.links) i 0 ≡ period (link_course (system_of mp mn plan)) i) × (0 < get_or (map mn.period plan.links) i 0) × (get_or (map mn.period plan.links) i 0 ≤ 1000000000)
+      link_period_here : (i : ℕ) → i < length plan.links → (get_or (map mn.period plan.links) i 0 ≡ period (link_course (system_of mp mn plan)) i) × (0 < get_or (map mn.period plan.links) i 0) × (get_or (map mn.period plan.links) i 0 ≤ LONGEST_PERIOD)
       link_period_here i b = period_here mn vn plan.links i kn laws_n.period b
 
   pub room_enough : (mp : Machine P) (mn : Machine N) (plan : PlanView P N) (room : ℕ) → IsPlan mp mn plan → room ≡ 128 * length plan.ports → 64 * (own_to (part_wires plan) (length plan.parts) + own_to (link_wires plan) (length plan.links)) ≤ room

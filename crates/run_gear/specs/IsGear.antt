@@ -14,8 +14,10 @@ pub record IsGear {P N : Type 0} (mp : Machine P) (mn : Machine N) (vp : P → T
   pub part_wires_are : g.parts.wiring ≡ part_wires plan
   pub link_wires_are : g.links.wiring ≡ link_wires plan
   pub order : AreInOrder g.parts g.links (length start.world.parts + length start.world.links)
-  pub fitted : Fitted (system_from mp mn plan start) vp vn g.recs.room g.recs.room g.parts.periods.items g.links.periods.items
+  pub fitted : Fitted (system_from mp mn plan start) vp vn g.recs.room g.recs.room
+      g.parts.periods.items g.links.periods.items
   pub hands_are : AreLong g.hands.items (part_wires plan) (length start.world.parts)
-  pub enough : 64 * (own_to (part_wires plan) (length start.world.parts) + own_to (link_wires plan) (length start.world.links)) ≤ g.recs.room
+  pub enough : 64 * (own_to (part_wires plan) (length start.world.parts)
+      + own_to (link_wires plan) (length start.world.links)) ≤ g.recs.room
   pub part_short : (i : ℕ) → length (own_of (part_wires plan) i) < 2 ^ 32
   pub link_short : (j : ℕ) → length (own_of (link_wires plan) j) < 2 ^ 32

@@ -1,5 +1,6 @@
 -- What is true of a run of a plan at its beginning.
 use Rattle.std.specs.Prelude.{◌≡◌, ◌+◌, ◌≤◌, [], length}
+use Rattle.sim_base.specs.declared.time.TheConstants.{LATEST_TIME}
 use Rattle.tick_law.specs.Machine.{Machine}
 use Rattle.tick_law.specs.PlanView.{PlanView, link_wires, start_of, opening}
 use Rattle.port_rows.specs.World.{IsFreshWorld}
@@ -15,4 +16,4 @@ pub record IsOpened {P N : Type 0} (mp : Machine P) (mn : Machine N) (vp : P →
   pub names_are : o.names ≡ names_of plan
   pub actors_named : actors_of o.names ≡ length plan.parts + length plan.links
   pub until_is : o.until.0 ≡ plan.until
-  pub until_within : plan.until ≤ 500000000000
+  pub until_within : plan.until ≤ LATEST_TIME

@@ -1,3 +1,4 @@
 pub mod IsGear
 pub mod IsOpened
 pub mod PlanNames
+pub mod Written

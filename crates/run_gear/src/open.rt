@@ -33,7 +33,8 @@ fn part_side<P: Actor + Drop, N: Actor + Drop>(
     plan: &Plan<P, N>,
 ) -> Result<SideGear, OutOfMemory>
     ensures wires { IfOk result (λ side. side.wiring ≡ part_wires plan.now) }
-    ensures periods { IfOk result (λ side. side.periods.items ≡ map P.machine.period plan.now.parts) }
+    ensures periods { IfOk result
+        (λ side. side.periods.items ≡ map P.machine.period plan.now.parts) }
     ensures first { IfOk result (λ side. side.first ≡ 0) }
 {
     let wiring = part_wiring(alloc, plan)?;
@@ -51,7 +52,8 @@ fn link_side<P: Actor + Drop, N: Actor + Drop>(
     plan: &Plan<P, N>,
 ) -> Result<SideGear, OutOfMemory>
     ensures wires { IfOk result (λ side. side.wiring ≡ link_wires plan.now) }
-    ensures periods { IfOk result (λ side. side.periods.items ≡ map N.machine.period plan.now.links) }
+    ensures periods { IfOk result
+        (λ side. side.periods.items ≡ map N.machine.period plan.now.links) }
     ensures first { IfOk result (λ side. side.first ≡ length plan.now.parts) }
 {
     let wiring = link_wiring(alloc, plan)?;
@@ -68,7 +70,8 @@ fn open_gear<P: Actor + Drop, N: Actor + Drop>(
     alloc: Global,
     plan: &Plan<P, N>,
 ) -> Result<Gear, OutOfMemory>
-    ensures gear { IfOk result (IsGear P.machine N.machine P.valid N.valid plan.now (opening plan.now)) }
+    ensures gear { IfOk result
+        (IsGear P.machine N.machine P.valid N.valid plan.now (opening plan.now)) }
     ensures none { IfOk result (λ gear. gear.recs.items ≡ []) }
 {
     all_known(&plan.parts);

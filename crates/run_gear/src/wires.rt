@@ -15,7 +15,8 @@ fn numbers(alloc: Global, own: &[PortNo]) -> Result<Vec<u32>, OutOfMemory>
 
 /// The same lists, of plain numbers.
 fn own_lists(alloc: Global, own: &[Vec<PortNo>]) -> Result<Vec<Vec<u32>>, OutOfMemory>
-    ensures { IfOk result (λ v. map (λ l. l.items) v.items ≡ map (λ l. map (λ (q : PortNo). q.0) l.items) own.now) }
+    ensures { IfOk result (λ v. map (λ l. l.items) v.items
+        ≡ map (λ l. map (λ (q : PortNo). q.0) l.items) own.now) }
 {
     let mut lists = Vec::with_capacity(alloc, own.len())?;
     for list in own {

@@ -3,6 +3,7 @@ use Rattle.std.proofs.Common.{◌≡◌, ◌≢◌, ℕ, ◌+◌, ◌-◌, ◌*�
 use Rattle.std.specs.Prelude.{Option, Some, None, Bool, true, false, ◌==◌, ◌&&◌, ◌||◌, slice_get, nat_lt}
 use Rattle.std.proofs.lemmas.Bool.Decides.{nat_tests}
 use Rattle.std.proofs.Math.Nat.{div-add-mod', mul-le-mul_left}
+use Rattle.sim_base.specs.declared.time.TheConstants.{LATEST_TICK, LATEST_TIME}
 use Rattle.tick_law.specs.Machine.{Machine}
 use Rattle.tick_law.specs.Wires.{Wires}
 use Rattle.tick_law.specs.WorldPlaces.{WorldPlaces}
@@ -159,23 +160,23 @@ module _ {P N : Type 0} where
     pub parts : (i : ℕ) → i < length r.start.world.parts → e ≤ edge_from (period (part_course r) i) d
     pub links : (i : ℕ) → i < length r.start.world.links → e ≤ edge_from (period (link_course r) i) d
 
-  pub none_below_parts : (r : System P N) (vp : P → Type 0) (vn : N → Type 0) (d e : ℕ) (world : WorldPlaces P N) (parts links : List (Option ℕ)) → IsSetUp r vp vn → d ≤ 500000000001 → NoEdge r d e → IsBoundary r d world parts links → NoneBelow parts (length r.start.world.parts) e
+  pub none_below_parts : (r : System P N) (vp : P → Type 0) (vn : N → Type 0) (d e : ℕ) (world : WorldPlaces P N) (parts links : List (Option ℕ)) → IsSetUp r vp vn → d ≤ LATEST_TIME + 1 → NoEdge r d e → IsBoundary r d world parts links → NoneBelow parts (length r.start.world.parts) e
   none_below_parts r vp vn d e world parts links up l none was = record {
-    none = λ i b at f. let g = next_from (part_course r) vp 501000000000 i d d at (part_is r vp vn up) b (omega (arith, l)) (sym (was.parts_are.at i b) ∙ f) in let h = none.parts i b in omega (arith, g, h);
+    none = λ i b at f. let g = next_from (part_course r) vp LATEST_TICK i d d at (part_is r vp vn up) b (omega (arith, l)) (sym (was.parts_are.at i b) ∙ f) in let h = none.parts i b in omega (arith, g, h);
   }
 
-  pub none_below_links : (r : System P N) (vp : P → Type 0) (vn : N → Type 0) (d e : ℕ) (world : WorldPlaces P N) (parts links : List (Option ℕ)) → IsSetUp r vp vn → d ≤ 500000000001 → NoEdge r d e → IsBoundary r d world parts links → NoneBelow links (length r.start.world.links) e
+  pub none_below_links : (r : System P N) (vp : P → Type 0) (vn : N → Type 0) (d e : ℕ) (world : WorldPlaces P N) (parts links : List (Option ℕ)) → IsSetUp r vp vn → d ≤ LATEST_TIME + 1 → NoEdge r d e → IsBoundary r d world parts links → NoneBelow links (length r.start.world.links) e
   none_below_links r vp vn d e world parts links up l none was = record {
-    none = λ i b at f. let g = next_from (link_course r) vn 501000000000 i (d - 1) d at (link_is r vp vn up) b (omega (arith, l)) (sym (was.links_are.at i b) ∙ f) in let h = none.links i b in omega (arith, g, h);
+    none = λ i b at f. let g = next_from (link_course r) vn LATEST_TICK i (d - 1) d at (link_is r vp vn up) b (omega (arith, l)) (sym (was.links_are.at i b) ∙ f) in let h = none.links i b in omega (arith, g, h);
   }
 
-  no_edges_at : (r : System P N) (vp : P → Type 0) (vn : N → Type 0) (d e j : ℕ) → IsSetUp r vp vn → e ≤ 500000000001 → NoEdge r d e → d ≤ j → j < e → edges_at r j ≡ 0
+  no_edges_at : (r : System P N) (vp : P → Type 0) (vn : N → Type 0) (d e j : ℕ) → IsSetUp r vp vn → e ≤ LATEST_TIME + 1 → NoEdge r d e → d ≤ j → j < e → edges_at r j ≡ 0
   no_edges_at r vp vn d e j up l none from below =
-      let a = no_course_steps (part_course r) vp 501000000000 d j (part_is r vp vn up) (omega (arith, l)) from (λ i b. let h = none.parts i b in omega (arith, h, below)) in
-      let b = no_course_steps (link_course r) vn 501000000000 d j (link_is r vp vn up) (omega (arith, l)) from (λ i b. let h = none.links i b in omega (arith, h, below)) in
+      let a = no_course_steps (part_course r) vp LATEST_TICK d j (part_is r vp vn up) (omega (arith, l)) from (λ i b. let h = none.parts i b in omega (arith, h, below)) in
+      let b = no_course_steps (link_course r) vn LATEST_TICK d j (link_is r vp vn up) (omega (arith, l)) from (λ i b. let h = none.links i b in omega (arith, h, below)) in
       omega (arith, a, b)
 
-  pub edges_jump : (r : System P N) (vp : P → Type 0) (vn : N → Type 0) (d e k : ℕ) → IsSetUp r vp vn → e ≤ 500000000001 → NoEdge r d e → d + k ≤ e → edges_below r (d + k) ≡ edges_below r d
+  pub edges_jump : (r : System P N) (vp : P → Type 0) (vn : N → Type 0) (d e k : ℕ) → IsSetUp r vp vn → e ≤ LATEST_TIME + 1 → NoEdge r d e → d + k ≤ e → edges_below r (d + k) ≡ edges_below r d
   edges_jump r vp vn d e zero up l none b = ap (λ x. edges_below r x) (let z : d + 0 ≡ d = omega arith in z)
   edges_jump r vp vn d e (suc k) up l none b =
       let before = edges_jump r vp vn d e k up l none (omega arith) in
@@ -183,7 +184,7 @@ module _ {P N : Type 0} where
       let more : edges_below r (d + suc k) ≡ edges_below r (d + k) + edges_at r (d + k) = ap (λ x. edges_below r x) (let z : d + suc k ≡ suc (d + k) = omega arith in z) in
       omega (arith, before, here, more)
 
-  pub edges_to : (r : System P N) (vp : P → Type 0) (vn : N → Type 0) (d e : ℕ) → IsSetUp r vp vn → d ≤ e → e ≤ 500000000001 → NoEdge r d e → edges_below r e ≡ edges_below r d
+  pub edges_to : (r : System P N) (vp : P → Type 0) (vn : N → Type 0) (d e : ℕ) → IsSetUp r vp vn → d ≤ e → e ≤ LATEST_TIME + 1 → NoEdge r d e → edges_below r e ≡ edges_below r d
   edges_to r vp vn d e up le l none =
       let z : d + (e - d) ≡ e = omega (arith, le) in
       ap (λ x. edges_below r x) (sym z) ∙ edges_jump r vp vn d e (e - d) up l none (omega (arith, z))
@@ -204,14 +205,14 @@ module _ {P N : Type 0} where
     pub reached : Reached r d e world parts links
     pub counted : edges_below r e ≡ edges_below r d
 
-  pub pass_over : (r : System P N) (vp : P → Type 0) (vn : N → Type 0) (hand room d e : ℕ) (pp lp : List ℕ) (world : WorldPlaces P N) (parts links : List (Option ℕ)) → Fitted r vp vn hand room pp lp → d ≤ e → e ≤ 500000000001 →
+  pub pass_over : (r : System P N) (vp : P → Type 0) (vn : N → Type 0) (hand room d e : ℕ) (pp lp : List ℕ) (world : WorldPlaces P N) (parts links : List (Option ℕ)) → Fitted r vp vn hand room pp lp → d ≤ e → e ≤ LATEST_TIME + 1 →
       ((i : ℕ) → i < length pp → e ≤ edge_from (get_or pp i 0) d) → ((i : ℕ) → i < length lp → e ≤ edge_from (get_or lp i 0) d) → IsBoundary r d world parts links → Passed r d e world parts links
   pass_over r vp vn hand room d e pp lp world parts links f le l ep el was =
       let none : NoEdge r d e = record {
         parts = λ i b. subst (λ p. e ≤ edge_from p d) (f.part_period i b).0 (ep i (let n = f.part_count in omega (arith, b, n)));
         links = λ i b. subst (λ p. e ≤ edge_from p d) (f.link_period i b).0 (el i (let n = f.link_count in omega (arith, b, n)));
       } in
-      let low : d ≤ 500000000001 = omega arith in
+      let low : d ≤ LATEST_TIME + 1 = omega arith in
       let np = none_below_parts r vp vn d e world parts links f.set_up low none was in
       let nl = none_below_links r vp vn d e world parts links f.set_up low none was in
       record {

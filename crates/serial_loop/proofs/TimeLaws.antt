@@ -45,6 +45,7 @@ use Rattle.run_gear.proofs.Boundaries.{system_wired}
 use Rattle.serial_loop.specs.declared.table.NextTables.{NextTables}
 use Rattle.serial_loop.specs.IsAt.{IsAt}
 use Rattle.serial_loop.specs.Pass.{CanPass, HasPassed, GearStays}
+use Rattle.serial_loop.specs.Woken.{AreWoken}
 use Rattle.serial_loop.proofs.EdgeLaws.{everyone_counts}
 
 -- where all had been seen before, those are woken whose faces changed
@@ -72,7 +73,7 @@ pub record CanBeWoken (others : SideGear) (rows : RowsView) (next : List (Option
 
 -- those whom the ports of these rows show a change are woken, and all is seen then
 pub record HaveWoken (part : Bool) (others : SideGear) (from : ℕ) (start next : List (Option ℕ)) (old new : RowsView) : Type 0 where
-  pub woken_are : IsTable next (λ j. woken (any_of (shows_other part old) (own_of others.wiring j)) (edge_of others from j) (next_at_place start j)) (length start)
+  pub woken_are : AreWoken part others from old start next
   pub rows_are : new ≡ record old { seen = map face_of old.ports }
 
 module _ {S : Type 0} where
@@ -141,7 +142,7 @@ faces_changed : (part : Bool) (others others' : SideGear) (from : ℕ) (before :
 faces_changed part others others' from before start next old new e wired seen woke =
     subst (λ l. IsTable next (λ j. woken (any_of (λ q. face_differs part (port_at (somes (alls before)) q) (port_at (somes (alls l)) q)) (own_of others.wiring j)) (edge_of others from j) (next_at_place start j)) (length start)) (sym (ap (λ (v : RowsView). v.ports) woke.rows_are))
     (faces_seen part others.wiring before old (edge_of others from) start next wired seen
-    (subst (λ (s : SideGear). IsTable next (λ j. woken (any_of (shows_other part old) (own_of s.wiring j)) (edge_of s from j) (next_at_place start j)) (length start)) e woke.woken_are))
+    (subst (λ (s : SideGear). AreWoken part s from old start next) e woke.woken_are))
 
 module _ {P N : Type 0} where
   -- the run of the machines of two sides from a start

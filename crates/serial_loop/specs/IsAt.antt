@@ -11,6 +11,7 @@ use Rattle.serial_loop.specs.declared.table.NextTables.{NextTables}
 
 -- the world and the next times are the run's at boundary d, and all that the ports show was seen
 pub record IsAt {P N : Type 0} (mp : Machine P) (mn : Machine N) (plan : PlanView P N) (start : Start P N) (d : ℕ) (world : World P N) (next : NextTables) : Type 0 where
-  pub boundary : IsBoundary (system_from mp mn plan start) d (whole_world (state_of world)) next.parts next.links
+  pub boundary : IsBoundary (system_from mp mn plan start) d
+      (whole_world (state_of world)) next.parts next.links
   pub settled : world.rows.seen ≡ map face_of world.rows.ports
   pub wires : world.rows.wires ≡ link_wires plan

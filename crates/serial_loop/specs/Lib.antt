@@ -1,4 +1,5 @@
 pub mod FirstEdge
+pub mod HasNext
 pub mod IsAt
 pub mod Pass
 pub mod Woken

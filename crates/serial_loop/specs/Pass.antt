@@ -37,7 +37,8 @@ module _ {S : Type 0} where
 
   -- everybody with an edge at t has stepped, and their next times went from `start` to `next`
   pub record HasPassed (m : Machine S) (mine : SideGear) (t : ℕ) (old : ActState S) (start : List (Option ℕ)) (new : ActState S) (next : List (Option ℕ)) (flag : Bool) : Type 0 where
-    pub places_are : places_acting new ≡ whole_side (pass m mine.wiring everyone t (side_acting old))
+    pub places_are : places_acting new
+        ≡ whole_side (pass m mine.wiring everyone t (side_acting old))
     pub noted : AreNoted m mine t old start next
     pub seen : new.rows.seen ≡ old.rows.seen
     pub wires : new.rows.wires ≡ old.rows.wires

@@ -1,6 +1,6 @@
-ghost use Rattle.std.specs.Prelude.{◌≡◌, ℕ, ◌<◌, ◌≤◌, ◌⊎◌, length, slice_index_or};
-ghost use Rattle.sim_base.specs.Edge.{edge_from};
-ghost use Rattle.serial_loop.specs.FirstEdge.{IsFirstEdge};
+ghost use Rattle.std.specs.Prelude.{◌≡◌, ◌+◌, ◌≤◌, ◌⊎◌};
+ghost use Rattle.sim_base.specs.declared.time.TheConstants.{LATEST_TIME};
+ghost use Rattle.serial_loop.specs.FirstEdge.{AreClocks, NoneEarlier, IsFirstEdge};
 
 use sim_base::{Time, first_edge_from};
 
@@ -14,13 +14,13 @@ fn lesser(a: u64, b: u64) -> u64
 
 /// The least of the first edges from a time and a bound.
 fn least_edge(periods: &[u64], at: u64, bound: u64) -> u64
-    requires periods { (i : ℕ) → i < length periods.now → (0 < slice_index_or periods.now i 0) × (slice_index_or periods.now i 0 ≤ 1000000000) }
+    requires periods { AreClocks periods.now }
     requires time { at ≤ bound }
-    requires bound { bound ≤ 500000000001 }
+    requires bound { bound ≤ LATEST_TIME + 1 }
 
     ensures from { at ≤ result }
     ensures within { result ≤ bound }
-    ensures each { (i : ℕ) → i < length periods.now → result ≤ edge_from (slice_index_or periods.now i 0) at }
+    ensures each { NoneEarlier periods.now at result }
     ensures reached { (result ≡ bound) ⊎ IsFirstEdge periods.now at result }
 {
     let mut low = bound;
@@ -32,16 +32,17 @@ fn least_edge(periods: &[u64], at: u64, bound: u64) -> u64
 
 /// The next edge of any actor from a time on, or the bound where that is earlier.
 pub fn next_edge(part_periods: &[u64], link_periods: &[u64], at: u64, bound: u64) -> u64
-    requires parts { (i : ℕ) → i < length part_periods.now → (0 < slice_index_or part_periods.now i 0) × (slice_index_or part_periods.now i 0 ≤ 1000000000) }
-    requires links { (i : ℕ) → i < length link_periods.now → (0 < slice_index_or link_periods.now i 0) × (slice_index_or link_periods.now i 0 ≤ 1000000000) }
+    requires parts { AreClocks part_periods.now }
+    requires links { AreClocks link_periods.now }
     requires time { at ≤ bound }
-    requires bound { bound ≤ 500000000001 }
+    requires bound { bound ≤ LATEST_TIME + 1 }
 
     ensures from { at ≤ result }
     ensures within { result ≤ bound }
-    ensures parts { (i : ℕ) → i < length part_periods.now → result ≤ edge_from (slice_index_or part_periods.now i 0) at }
-    ensures links { (i : ℕ) → i < length link_periods.now → result ≤ edge_from (slice_index_or link_periods.now i 0) at }
-    ensures reached { (result ≡ bound) ⊎ (IsFirstEdge part_periods.now at result ⊎ IsFirstEdge link_periods.now at result) }
+    ensures parts { NoneEarlier part_periods.now at result }
+    ensures links { NoneEarlier link_periods.now at result }
+    ensures reached { (result ≡ bound)
+        ⊎ (IsFirstEdge part_periods.now at result ⊎ IsFirstEdge link_periods.now at result) }
 {
     lesser(
         least_edge(part_periods, at, bound),

@@ -1,13 +1,12 @@
 //! All times of a run, from edge to edge.
 ghost use Rattle.std.specs.Prelude.{◌≡◌, ◌+◌, ◌≤◌, Err, IfErr, IfOk, OnErr, OnOk, false};
-ghost use Rattle.sim_io.specs.Sink.{Rose, Got, GotPrefix};
-ghost use Rattle.tick_law.specs.SerialLoop.{world_at, records_below, edges_below};
+ghost use Rattle.sim_io.specs.Sink.{Rose};
+ghost use Rattle.tick_law.specs.SerialLoop.{world_at, edges_below};
 ghost use Rattle.tick_law.specs.PlanView.{opening, system_from};
 ghost use Rattle.tick_law.specs.Verdict.{verdict_at, end_at};
-ghost use Rattle.trace_out.specs.Lines.{lines_of};
 ghost use Rattle.port_rows.specs.World.{state_of};
 ghost use Rattle.run_gear.specs.IsOpened.{IsOpened};
-ghost use Rattle.run_gear.specs.PlanNames.{names_of};
+ghost use Rattle.run_gear.specs.Written.{GotLines, GotSomeLines};
 ghost use Rattle.serial_loop.specs.IsAt.{IsAt};
 ghost use Rattle.run_gear.specs.IsGear.{IsGear};
 
@@ -35,15 +34,26 @@ pub fn run_opened<P: Actor + Drop, N: Actor + Drop, C: Charter<P, N>, K: Sink, L
     requires at { IsAt P.machine N.machine C.plan C.start 0 opened.world next }
     requires out_only { all ≡ false }
 
-    ensures world { IfOk result (λ e. state_of e.world ≡ world_at (system_from P.machine N.machine C.plan C.start) (C.plan.until + 1)) }
-    ensures verdict { IfOk result (λ e. e.verdict ≡ verdict_at (system_from P.machine N.machine C.plan C.start) C.plan.until) }
-    ensures end { IfOk result (λ e. e.end.0 ≡ end_at (system_from P.machine N.machine C.plan C.start) C.plan.until) }
-    ensures steps { OnOk result (steps.new ≡ steps.old + edges_below (system_from P.machine N.machine C.plan C.start) (C.plan.until + 1)) }
-    ensures lines { OnOk result (Got (K.told sink.old) (K.told sink.new) (lines_of (names_of C.plan) all (records_below (system_from P.machine N.machine C.plan C.start) (C.plan.until + 1)))) }
+    ensures world { IfOk result (λ e. state_of e.world
+        ≡ world_at (system_from P.machine N.machine C.plan C.start) (C.plan.until + 1)) }
+    ensures verdict { IfOk result
+        (λ e. e.verdict
+        ≡ verdict_at (system_from P.machine N.machine C.plan C.start) C.plan.until) }
+    ensures end { IfOk result (λ e. e.end.0
+        ≡ end_at (system_from P.machine N.machine C.plan C.start) C.plan.until) }
+    ensures steps { OnOk result (steps.new ≡ steps.old
+        + edges_below (system_from P.machine N.machine C.plan C.start) (C.plan.until + 1)) }
+    ensures lines { OnOk result (GotLines C.plan
+        (system_from P.machine N.machine C.plan C.start) all (C.plan.until + 1) (K.told sink.old)
+        (K.told sink.new)) }
     ensures upto { IfErr result (λ f. f.upto.0 ≤ C.plan.until + 1) }
     ensures fault { OnErr result (Rose (K.faults sink.old) (K.faults sink.new)) }
-    ensures prefix { IfErr result (λ f. GotPrefix (K.told sink.old) (K.told sink.new) (lines_of (names_of C.plan) all (records_below (system_from P.machine N.machine C.plan C.start) f.upto.0))) }
-    ensures fault_steps { IfErr result (λ f. steps.new ≡ steps.old + edges_below (system_from P.machine N.machine C.plan C.start) f.upto.0) }
+    ensures prefix { IfErr result (λ f. GotSomeLines C.plan
+        (system_from P.machine N.machine C.plan C.start) all f.upto.0 (K.told sink.old)
+        (K.told sink.new)) }
+    ensures fault_steps { IfErr result
+        (λ f. steps.new ≡ steps.old
+        + edges_below (system_from P.machine N.machine C.plan C.start) f.upto.0) }
     ensures never_falls { K.faults sink.old ≤ K.faults sink.new }
 {
     let Opened {

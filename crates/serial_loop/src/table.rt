@@ -1,6 +1,6 @@
 ghost use Rattle.std.specs.Prelude.{◌≡◌, ◌<◌, ◌||◌, length, replicate, slice_set, IfOk, Some};
-ghost use Rattle.tick_law.specs.Verdict.{exists_to};
 ghost use Rattle.model_laws.specs.NextTable.{next_at_place};
+ghost use Rattle.serial_loop.specs.HasNext.{has_next};
 
 use sim_base::OutOfMemory;
 use std::alloc::Global;
@@ -57,14 +57,14 @@ impl NextTable {
 
     /// Whether some actor has a next time.
     pub fn any(&self) -> bool
-        ensures { result ≡ exists_to (next_at_place self.now) (length self.now) }
+        ensures { result ≡ has_next self.now }
     {
         any_next(&self.times)
     }
 }
 
 fn any_next(next: &[Option<u64>]) -> bool
-    ensures { result ≡ exists_to (next_at_place next.now) (length next.now) }
+    ensures { result ≡ has_next next.now }
 {
     let mut found = false;
     for no in 0..next.len() {

@@ -1,5 +1,6 @@
 //! One time of the loop that ticks everything.
 ghost use Rattle.std.specs.Prelude.{◌≡◌, ◌+◌, ◌≤◌};
+ghost use Rattle.sim_base.specs.declared.time.TheConstants.{LATEST_TIME};
 ghost use Rattle.tick_law.specs.SerialLoop.{records_at_time, stirs_at, edges_at};
 ghost use Rattle.tick_law.specs.PlanView.{system_from};
 ghost use Rattle.run_gear.specs.IsGear.{IsGear};
@@ -26,13 +27,15 @@ pub fn tick_time<P: Actor + Drop, N: Actor + Drop, C: Charter<P, N>, L: Ledger>(
 ) -> bool
     requires gear { IsGear P.machine N.machine P.valid N.valid C.plan C.start gear.old }
     requires at { IsAt P.machine N.machine C.plan C.start t world.old next.old }
-    requires time { t ≤ 500000000000 }
+    requires time { t ≤ LATEST_TIME }
 
     ensures gear { IsGear P.machine N.machine P.valid N.valid C.plan C.start gear.new }
     ensures at { IsAt P.machine N.machine C.plan C.start (t + 1) world.new next.new }
-    ensures records { gear.new.recs.items ≡ records_at_time (system_from P.machine N.machine C.plan C.start) t }
+    ensures records { gear.new.recs.items
+        ≡ records_at_time (system_from P.machine N.machine C.plan C.start) t }
     ensures flag { result ≡ stirs_at (system_from P.machine N.machine C.plan C.start) t }
-    ensures steps { steps.new ≡ steps.old + edges_at (system_from P.machine N.machine C.plan C.start) t }
+    ensures steps { steps.new ≡ steps.old
+        + edges_at (system_from P.machine N.machine C.plan C.start) t }
 {
     gear.recs.clear();
     let parts = pass_parts(world, gear, &mut next.parts, t, steps);

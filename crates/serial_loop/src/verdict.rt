@@ -1,6 +1,6 @@
-ghost use Rattle.std.specs.Prelude.{◌≡◌, ◌||◌, length};
-ghost use Rattle.tick_law.specs.Verdict.{exists_to, all_done, verdict_by};
-ghost use Rattle.model_laws.specs.NextTable.{next_at_place};
+ghost use Rattle.std.specs.Prelude.{◌≡◌, ◌||◌};
+ghost use Rattle.tick_law.specs.Verdict.{all_done, verdict_by};
+ghost use Rattle.serial_loop.specs.HasNext.{has_next};
 
 use crate::table::NextTables;
 use run_gear::{are_done, verdict_at_rest};
@@ -8,7 +8,8 @@ use tick_law::{Actor, Verdict};
 
 /// The verdict, by the next times that are left and the parts that are done.
 pub fn verdict_of<P: Actor>(parts: &[P], next: &NextTables) -> Verdict
-    ensures { result ≡ verdict_by (exists_to (next_at_place next.now.parts) (length next.now.parts) || exists_to (next_at_place next.now.links) (length next.now.links)) (all_done P.machine parts.now) }
+    ensures { result
+        ≡ verdict_by (has_next next.now.parts || has_next next.now.links) (all_done P.machine parts.now) }
 {
     if next.parts.any() || next.links.any() {
         Verdict::Cut

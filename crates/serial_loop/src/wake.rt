@@ -1,16 +1,12 @@
 //! Owners of ports on the other side are woken by what their ports show.
-ghost use Rattle.std.specs.Prelude.{◌≡◌, ◌^◌, ◌<◌, ◌≤◌, length, map, slice_set};
-ghost use Rattle.tick_law.specs.Wires.{own_of, owner_of};
-ghost use Rattle.tick_law.specs.Pass.{port_at};
-ghost use Rattle.tick_law.specs.NextTime.{woken};
-ghost use Rattle.tick_law.specs.Course.{any_of};
+ghost use Rattle.std.specs.Prelude.{◌≡◌, ◌^◌, ◌<◌, ◌≤◌, length, map};
+ghost use Rattle.sim_base.specs.declared.time.TheConstants.{LATEST_TICK};
+ghost use Rattle.tick_law.specs.Wires.{owner_of};
 ghost use Rattle.model_laws.specs.Fitted.{Wakes};
-ghost use Rattle.model_laws.specs.NextTable.{IsTable, next_at_place};
 ghost use Rattle.port_row.specs.Row.{face_of};
 ghost use Rattle.actor_turn.specs.Side.{edge_of};
 ghost use Rattle.port_rows.specs.Rows.{are_parts};
-ghost use Rattle.actor_turn.specs.Waking.{shows_other};
-ghost use Rattle.serial_loop.specs.Woken.{set_where};
+ghost use Rattle.serial_loop.specs.Woken.{set_where, AreWoken};
 
 use crate::table::NextTable;
 use actor_turn::side::SideGear;
@@ -20,9 +16,11 @@ use sim_base::{Time, first_edge_from};
 /// Where this holds, the owner of a port steps at its first edge from `from`.
 fn wake_where(changed: bool, port: u32, others: &SideGear, from: u64, next: &mut NextTable)
     requires port { port < length others.now.wiring.owner }
-    requires wakes { Wakes others.now.wiring (length others.now.wiring.owner) others.now.periods.items next.old }
-    requires time { from ≤ 501000000000 }
-    ensures { next.new ≡ set_where changed (owner_of others.now.wiring port) (edge_of others.now from (owner_of others.now.wiring port)) next.old }
+    requires wakes { Wakes others.now.wiring
+        (length others.now.wiring.owner) others.now.periods.items next.old }
+    requires time { from ≤ LATEST_TICK }
+    ensures { next.new ≡ set_where changed (owner_of others.now.wiring port)
+        (edge_of others.now from (owner_of others.now.wiring port)) next.old }
 {
     if changed {
         let no = others.wiring.owner(port);
@@ -40,12 +38,13 @@ pub fn wake_changed(
     from: u64,
     next: &mut NextTable,
 )
-    requires wakes { Wakes others.now.wiring (length rows.old.ports) others.now.periods.items next.old }
+    requires wakes { Wakes others.now.wiring
+        (length rows.old.ports) others.now.periods.items next.old }
     requires few { length rows.old.ports < 2 ^ 32 }
     requires seen { length rows.old.seen ≡ length rows.old.ports }
-    requires time { from ≤ 501000000000 }
+    requires time { from ≤ LATEST_TICK }
 
-    ensures woken { IsTable next.new (λ j. woken (any_of (shows_other (are_parts side) rows.old) (own_of others.now.wiring j)) (edge_of others.now from j) (next_at_place next.old j)) (length next.old) }
+    ensures woken { AreWoken (are_parts side) others.now from rows.old next.old next.new }
     ensures settled { rows.new ≡ record rows.old { seen = map face_of rows.old.ports } }
 {
     for port in 0..(rows.len() as u32) {

@@ -1,4 +1,5 @@
 use Rattle.std.proofs.Common.{◌≡◌, ◌+◌, ◌≤◌, length, sym, ◌∙◌, ap, arith, add-one}
+use Rattle.sim_base.specs.declared.time.TheConstants.{LATEST_TIME}
 use Rattle.tick_law.specs.PlanView.{system_from}
 use Rattle.tick_law.specs.Verdict.{awake_now, awake_below}
 use Rattle.phase_engine.specs.RunGear.{places_of}
@@ -12,7 +13,7 @@ loop-t-init g c =
     let is = c.requires.run in
     let run = c.args.run.now in
     let due = c.next_due-t in
-    let last : due.result ≤ 500000000001 = (let u = is.of.until_within in omega (arith, due.ensures.within, c.requires.within, u)) in
+    let last : due.result ≤ LATEST_TIME + 1 = (let u = is.of.until_within in omega (arith, due.ensures.within, c.requires.within, u)) in
     let reached = to_due r g.P.Actor.valid g.N.Actor.valid run.at due.result (places_of run.world) run.gear.next 0 (length start.world.parts) (length start.world.links) is.gear_is.fitted.set_up due.ensures.from last due.ensures.none is.at_is in
     record {
       gear = is.gear_is;
@@ -32,7 +33,7 @@ loop-t-preserved g c =
     let t = c.loop-t.t in
     let now = c.one_time-stirred.new in
     let due = c.next_due-t-in-loop-t in
-    let last : due.result ≤ 500000000001 = (let u = c.requires.run.of.until_within in omega (arith, due.ensures.within, c.requires.within, u)) in
+    let last : due.result ≤ LATEST_TIME + 1 = (let u = c.requires.run.of.until_within in omega (arith, due.ensures.within, c.requires.within, u)) in
     let reached = to_due r g.P.Actor.valid g.N.Actor.valid (t + 1) due.result (places_of now.world) now.gear.next 0 (length start.world.parts) (length start.world.links) inv.gear.fitted.set_up due.ensures.from last due.ensures.none c.one_time-stirred.ensures.at in
     let end = end_then r t c.loop-t.run.end c.later-run.result c.one_time-stirred.result c.later-run.ensures c.one_time-stirred.ensures.flag inv.end in
     let z : awake_below r (t + 1) ≡ awake_below r t + awake_now r t = ap (λ x. awake_below r x) (add-one t) in

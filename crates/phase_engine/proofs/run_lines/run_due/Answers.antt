@@ -1,5 +1,6 @@
 use Rattle.std.proofs.Common.{◌≡◌, ◌+◌, ◌≤◌, [], length, subst, sym, ◌∙◌, ap, arith, refl, add-one}
 use Rattle.std.specs.Prelude.{All, option_map, ◌++◌, ◌<◌}
+use Rattle.sim_base.specs.declared.time.TheConstants.{LATEST_TIME}
 use Rattle.port_msg.specs.declared.records.Record.{Record}
 use Rattle.sim_io.specs.Sink.{Got, GotPrefix}
 use Rattle.tick_law.specs.PlanView.{system_from}
@@ -23,7 +24,7 @@ loop-t-init g c =
     let due = c.next_due-t in
     let told = g.K.Sink.told c.args.sink.now in
     let bound : run.until + 1 ≡ plan.until + 1 = ap (λ n. n + 1) is.of.until_is in
-    let last : due.result ≤ 500000000001 = (let u = is.of.until_within in omega (arith, due.ensures.within, bound, u)) in
+    let last : due.result ≤ LATEST_TIME + 1 = (let u = is.of.until_within in omega (arith, due.ensures.within, bound, u)) in
     let reached = to_due r g.P.Actor.valid g.N.Actor.valid run.at due.result (places_of run.world) run.gear.next 0 (length start.world.parts) (length start.world.links) is.gear_is.fitted.set_up due.ensures.from last due.ensures.none is.at_is in
     let none : records_between r run.at due.result ≡ [] = records_jump r run.at run.at due.result (omega arith) due.ensures.from reached.records ∙ none_between r run.at in
     record {
@@ -83,7 +84,7 @@ loop-t-preserved g c =
     let due = c.next_due-t-in-loop-t in
     let from = c.args.run.now.at in
     let told = g.K.Sink.told c.args.sink.now in
-    let last : due.result ≤ 500000000001 = (let u = inv.of.until_within in omega (arith, due.ensures.within, inv.bound, u)) in
+    let last : due.result ≤ LATEST_TIME + 1 = (let u = inv.of.until_within in omega (arith, due.ensures.within, inv.bound, u)) in
     let reached = to_due r g.P.Actor.valid g.N.Actor.valid (t + 1) due.result (places_of now.world) now.gear.next 0 (length start.world.parts) (length start.world.links) inv.gear.fitted.set_up due.ensures.from last due.ensures.none c.one_time-stirred.ensures.at in
     let end = end_then r t c.loop-t.run.end c.later-run.result c.one_time-stirred.result c.later-run.ensures c.one_time-stirred.ensures.flag inv.end in
     let here : Got (g.K.Sink.told c.loop-t.sink) (g.K.Sink.told then) (lines_of (names_of plan) c.args.all now.gear.recs.items) = subst (λ (n : NamesView). Got (g.K.Sink.told c.loop-t.sink) (g.K.Sink.told then) (lines_of n c.args.all now.gear.recs.items)) inv.of.names_are c.in-Ok.ensures.ok in

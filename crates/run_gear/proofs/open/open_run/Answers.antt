@@ -1,5 +1,6 @@
 use Rattle.std.proofs.Common.{◌≡◌, ◌+◌, ◌≤◌, length, map, sym, ◌∙◌, ap, subst, arith, refl}
 use Rattle.std.specs.Prelude.{[], slice_get, vec_len}
+use Rattle.sim_base.specs.declared.time.TheConstants.{LATEST_TIME}
 use Rattle.port_msg.specs.PortView.{PortView, port_view}
 use Rattle.tick_law.specs.PlanView.{PlanView, IsPlan, start_of, link_wires}
 use Rattle.tick_law.specs.declared.port_plan.PortPlan.{PortPlan}
@@ -36,5 +37,5 @@ returns g c =
       names_are = c.in_ok-names.ensures;
       actors_named = ap actors_of c.in_ok-names.ensures ∙ sym (ap (λ (p : PlanView _ _). length p.part_names + length p.link_names) c.plan.view_is) ∙ (let n : length c.plan.inside.part_names.items + length c.plan.inside.link_names.items ≡ length c.plan.inside.parts.items + length c.plan.inside.links.items = omega (arith, inv.part_names, inv.link_names) in n) ∙ ap (λ (p : PlanView _ _). length p.parts + length p.links) c.plan.view_is;
       until_is = ap (λ (p : PlanView _ _). p.until) c.plan.view_is;
-      until_within = subst (λ (p : PlanView _ _). p.until ≤ 500000000000) c.plan.view_is inv.until;
+      until_within = subst (λ (p : PlanView _ _). p.until ≤ LATEST_TIME) c.plan.view_is inv.until;
     }

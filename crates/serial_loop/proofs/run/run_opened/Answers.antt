@@ -1,5 +1,6 @@
 use Rattle.std.proofs.Common.{◌≡◌, ◌+◌, ◌<◌, ◌≤◌, ℕ, ◌++◌, length, suc, sym, ◌∙◌, ap, subst, arith, add-one}
 use Rattle.std.specs.Prelude.{All, ◌||◌, option_map, slice_index_or}
+use Rattle.sim_base.specs.declared.time.TheConstants.{LATEST_TIME}
 use Rattle.sim_base.specs.Edge.{edge_from}
 use Rattle.sim_io.specs.Sink.{Got, GotPrefix}
 use Rattle.port_msg.specs.declared.records.Record.{Record}
@@ -30,7 +31,7 @@ loop-t-init g c =
     let e = c.next_edge-t.result in
     let f = c.next_edge-t.ensures in
     let gear : IsGear mp mn g.P.Actor.valid g.N.Actor.valid plan start o.gear = subst (λ s. IsGear mp mn g.P.Actor.valid g.N.Actor.valid plan s o.gear) (sym c.requires.start) c.requires.opened.gear_is in
-    let within : e ≤ 500000000001 = omega (arith, f.within, c.requires.opened.until_is, c.requires.opened.until_within) in
+    let within : e ≤ LATEST_TIME + 1 = omega (arith, f.within, c.requires.opened.until_is, c.requires.opened.until_within) in
     let passed = pass_over r g.P.Actor.valid g.N.Actor.valid o.gear.recs.room o.gear.recs.room 0 e o.gear.parts.periods.items o.gear.links.periods.items (whole_world (state_of o.world)) c.args.next.parts c.args.next.links gear.fitted f.from within
     (subst (λ l. (i : ℕ) → i < length l → e ≤ edge_from (slice_index_or l i 0) 0) c.deref.ensures.value f.parts)
     (subst (λ l. (i : ℕ) → i < length l → e ≤ edge_from (slice_index_or l i 0) 0) c.deref-2.ensures.value f.links)
@@ -83,7 +84,7 @@ loop-t-preserved g c =
     let now = c.tick_time-stirred.new in
     let e = c.next_edge-t-in-loop-t.result in
     let f = c.next_edge-t-in-loop-t.ensures in
-    let within : e ≤ 500000000001 = omega (arith, f.within, c.requires.opened.until_is, c.requires.opened.until_within) in
+    let within : e ≤ LATEST_TIME + 1 = omega (arith, f.within, c.requires.opened.until_is, c.requires.opened.until_within) in
     let passed = pass_over r g.P.Actor.valid g.N.Actor.valid now.gear.recs.room now.gear.recs.room (t + 1) e now.gear.parts.periods.items now.gear.links.periods.items (whole_world (state_of now.world)) now.next.parts now.next.links did.gear.fitted f.from within
     (subst (λ l. (i : ℕ) → i < length l → e ≤ edge_from (slice_index_or l i 0) (t + 1)) c.deref-in-loop-t.ensures.value f.parts)
     (subst (λ l. (i : ℕ) → i < length l → e ≤ edge_from (slice_index_or l i 0) (t + 1)) c.deref-in-loop-t-2.ensures.value f.links)
