@@ -1,6 +1,7 @@
 -- A pass over those that are due, one turn after another.
-use Rattle.std.proofs.Common.{◌≡◌, ℕ, ◌+◌, ◌<◌, ◌≤◌, length, map, suc, sym, ◌∙◌, subst, arith, refl}
+use Rattle.std.proofs.Common.{◌≡◌, ℕ, ◌+◌, ◌<◌, ◌≤◌, List, length, map, suc, sym, ◌∙◌, ap, subst, arith, refl}
 use Rattle.std.specs.Prelude.{Bool, true, false, ◌||◌, slice_get, slice_set}
+use Rattle.bit_set.specs.Bits.{is_in, IsNext, NoneIn}
 use Rattle.tick_law.specs.Machine.{Machine}
 use Rattle.tick_law.specs.Wires.{own_of, Wired}
 use Rattle.tick_law.specs.Pass.{pass}
@@ -18,7 +19,7 @@ use Rattle.actor_turn.specs.Next.{next_seat_of}
 use Rattle.actor_turn.specs.Turn.{TurnState, side_in, places_in, own_next, CanTurn, HasTurned}
 use Rattle.actor_turn.specs.Waking.{CanWake}
 use Rattle.actor_turn.proofs.WakingLaws.{can_wake_still}
-use Rattle.due_pass.specs.Pass.{CanPass, HasPassed, HasWoken, is_due}
+use Rattle.due_pass.specs.Pass.{CanPass, HasPassed, HasWoken, AreMarked, is_due}
 use Rattle.actor_turn.proofs.WithinLaws.{Within, within, ports_of}
 use Rattle.due_pass.proofs.PassGlue.{glue_none, glue_turn, gone_upto}
 
@@ -44,7 +45,7 @@ module _ {S : Type 0} where
   }
 
   -- those that are not due are passed over
-  pub in_pass_to : (m : Machine S) (part : Bool) (mine others : SideGear) (t at n : ℕ) (old now : TurnState S) (flag : Bool) → at ≤ n → ((j : ℕ) → at ≤ j → j < n → is_due mine t old j ≡ false) → InPass m part mine others t at old now flag → InPass m part mine others t n old now flag
+  in_pass_to : (m : Machine S) (part : Bool) (mine others : SideGear) (t at n : ℕ) (old now : TurnState S) (flag : Bool) → at ≤ n → ((j : ℕ) → at ≤ j → j < n → is_due mine t old j ≡ false) → InPass m part mine others t at old now flag → InPass m part mine others t n old now flag
   in_pass_to m part mine others t at n old now flag b rests was = record {
     gone = gone_upto m mine.wiring t mine.first at n (side_in old) (own_next mine old) (places_in now) (half_of mine.first (length old.actors) now.next) old.recs.items now.recs.items flag old.steps now.steps b rests was.gone;
     woke = was.woke;
@@ -59,7 +60,7 @@ module _ {S : Type 0} where
       within m valid mine.wiring (firsts (is_due mine t old) at) t old.actors now.actors old.rows.ports now.rows.ports old.recs.room old.recs.room law can.fits can.sound (omega (arith, can.time)) was.gone.places_are
 
   -- the next one can have its turn
-  pub can_turn : (m : Machine S) (valid : S → Type 0) (part : Bool) (mine others : SideGear) (t i : ℕ) (old now : TurnState S) (flag : Bool) → Lawful m valid → CanPass m valid mine others t old → i < length old.actors → InPass m part mine others t i old now flag → CanTurn m mine others i t now
+  can_turn : (m : Machine S) (valid : S → Type 0) (part : Bool) (mine others : SideGear) (t i : ℕ) (old now : TurnState S) (flag : Bool) → Lawful m valid → CanPass m valid mine others t old → i < length old.actors → InPass m part mine others t i old now flag → CanTurn m mine others i t now
   can_turn m valid part mine others t i old now flag law can b was =
       let able = fits_still m valid part mine others t i old now flag law can was in
       let left = room_left m valid mine.wiring (is_due mine t old) t mine.first i old.recs.room (side_in old) old.recs.items now.recs.items law can.fits.wired can.sound b was.gone.records_are can.enough in
@@ -78,7 +79,7 @@ module _ {S : Type 0} where
       }
 
   -- one turn more
-  pub in_pass_more : (m : Machine S) (valid : S → Type 0) (part : Bool) (mine others : SideGear) (t i : ℕ) (old now new : TurnState S) (flag turned more : Bool) → Lawful m valid → CanPass m valid mine others t old → i < length old.actors → is_due mine t old i ≡ true → InPass m part mine others t i old now flag → HasTurned m part mine others i t now new turned → more ≡ (flag || turned) → InPass m part mine others t (i + 1) old new more
+  in_pass_more : (m : Machine S) (valid : S → Type 0) (part : Bool) (mine others : SideGear) (t i : ℕ) (old now new : TurnState S) (flag turned more : Bool) → Lawful m valid → CanPass m valid mine others t old → i < length old.actors → is_due mine t old i ≡ true → InPass m part mine others t i old now flag → HasTurned m part mine others i t now new turned → more ≡ (flag || turned) → InPass m part mine others t (i + 1) old new more
   in_pass_more m valid part mine others t i old now new flag turned more law can b due was did either =
       let w = mine.wiring in
       let n = length old.actors in
@@ -102,8 +103,32 @@ module _ {S : Type 0} where
         room = did.room ∙ was.room;
       }
 
+  -- the next member of the set is an actor
+  pub next_below : (due due' : List Bool) (at i : ℕ) (old : TurnState S) → due' ≡ due → length due ≡ length old.actors → IsNext due' at i → i < length old.actors
+  next_below due due' at i old same long next = omega (arith, next.within, ap length same, long)
+
+  -- those before it are passed over
+  to_next : (m : Machine S) (part : Bool) (mine others : SideGear) (due due' : List Bool) (t at i : ℕ) (old now : TurnState S) (flag : Bool) → due' ≡ due → length due ≡ length old.actors → AreMarked due mine t old → IsNext due' at i → InPass m part mine others t at old now flag → InPass m part mine others t i old now flag
+  to_next m part mine others due due' t at i old now flag same long marked next was =
+      in_pass_to m part mine others t at i old now flag next.not_below (λ j a l. sym (marked j (omega (arith, l, next_below due due' at i old same long next))) ∙ sym (ap (λ d. is_in d j) same) ∙ next.least j a l) was
+
+  -- it can have its turn
+  pub next_can_turn : (m : Machine S) (valid : S → Type 0) (part : Bool) (mine others mine' others' : SideGear) (due due' : List Bool) (t at i : ℕ) (old now : TurnState S) (flag : Bool) → Lawful m valid → CanPass m valid mine others t old → mine' ≡ mine → others' ≡ others → due' ≡ due → length due ≡ length old.actors → AreMarked due mine t old → IsNext due' at i → InPass m part mine others t at old now flag → CanTurn m mine' others' i t now
+  next_can_turn m valid part mine others mine' others' due due' t at i old now flag law can own other same long marked next was =
+      subst (λ (s : SideGear). CanTurn m s others' i t now) (sym own)
+      (subst (λ (s : SideGear). CanTurn m mine s i t now) (sym other)
+      (can_turn m valid part mine others t i old now flag law can (next_below due due' at i old same long next) (to_next m part mine others due due' t at i old now flag same long marked next was)))
+
+  -- and has had it
+  pub next_turned : (m : Machine S) (valid : S → Type 0) (part : Bool) (mine others mine' others' : SideGear) (due due' : List Bool) (t at i : ℕ) (old now : TurnState S) (new : TurnState S) (flag turned more : Bool) → Lawful m valid → CanPass m valid mine others t old → mine' ≡ mine → others' ≡ others → due' ≡ due → length due ≡ length old.actors → AreMarked due mine t old → IsNext due' at i → InPass m part mine others t at old now flag → HasTurned m part mine' others' i t now new turned → more ≡ (flag || turned) → InPass m part mine others t (i + 1) old new more
+  next_turned m valid part mine others mine' others' due due' t at i old now new flag turned more law can own other same long marked next was did either =
+      let below = next_below due due' at i old same long next in
+      in_pass_more m valid part mine others t i old now new flag turned more law can below (sym (marked i below) ∙ sym (ap (λ d. is_in d i) same) ∙ next.here)
+      (to_next m part mine others due due' t at i old now flag same long marked next was)
+      (subst (λ (s : SideGear). HasTurned m part s others i t now new turned) own (subst (λ (s : SideGear). HasTurned m part mine' s i t now new turned) other did)) either
+
   -- when nobody is left
-  pub in_pass_all : (m : Machine S) (valid : S → Type 0) (part : Bool) (mine others : SideGear) (t at : ℕ) (old now : TurnState S) (flag : Bool) → Lawful m valid → CanPass m valid mine others t old → at ≤ length old.actors → ((j : ℕ) → at ≤ j → j < length old.actors → is_due mine t old j ≡ false) → InPass m part mine others t at old now flag → HasPassed m part mine others t old now flag
+  in_pass_all : (m : Machine S) (valid : S → Type 0) (part : Bool) (mine others : SideGear) (t at : ℕ) (old now : TurnState S) (flag : Bool) → Lawful m valid → CanPass m valid mine others t old → at ≤ length old.actors → ((j : ℕ) → at ≤ j → j < length old.actors → is_due mine t old j ≡ false) → InPass m part mine others t at old now flag → HasPassed m part mine others t old now flag
   in_pass_all m valid part mine others t at old now flag law can b rests was =
       let n = length old.actors in
       let done = in_pass_to m part mine others t at n old now flag b rests was in
@@ -121,3 +146,8 @@ module _ {S : Type 0} where
         flag_is = done.gone.flag_is;
         steps_are = done.gone.steps_are;
       }
+
+  -- where no member of the set is left
+  pub none_next : (m : Machine S) (valid : S → Type 0) (part : Bool) (mine others : SideGear) (due due' : List Bool) (t at : ℕ) (old now : TurnState S) (flag : Bool) → Lawful m valid → CanPass m valid mine others t old → due' ≡ due → length due ≡ length old.actors → AreMarked due mine t old → at ≤ length old.actors → NoneIn due' at (length due') → InPass m part mine others t at old now flag → HasPassed m part mine others t old now flag
+  none_next m valid part mine others due due' t at old now flag law can same long marked b none was =
+      in_pass_all m valid part mine others t at old now flag law can b (λ j a l. sym (marked j l) ∙ sym (ap (λ d. is_in d j) same) ∙ none j a (omega (arith, l, ap length same, long))) was

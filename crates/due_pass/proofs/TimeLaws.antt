@@ -1,6 +1,7 @@
 -- Both passes of a time over those that are due, where actors and ports all stand in their places.
 use Rattle.std.proofs.Common.{◌≡◌, ℕ, ◌+◌, ◌*◌, ◌^◌, ◌<◌, ◌≤◌, ◌⊎◌, inl, inr, List, ◌++◌, Vec, Global, length, sym, ◌∙◌, ap, subst, refl, arith}
 use Rattle.std.specs.Prelude.{Option, Bool, true, false, ◌||◌, map}
+use Rattle.sim_base.specs.declared.time.TheConstants.{LATEST_TIME}
 use Rattle.port_msg.specs.PortView.{PortView}
 use Rattle.port_msg.specs.declared.records.Record.{Record}
 use Rattle.sim_base.specs.declared.time.Time.{Time}
@@ -111,7 +112,7 @@ module _ {S : Type 0} where
 module _ {P N : Type 0} where
   -- what the parts' pass asks
   pub first_asks : (p : Machine P) (n : Machine N) (start : Start P N) (vp : P → Type 0) (vn : N → Type 0) (room items t : ℕ) (a b : SideGear) (parts : List P) (links : List N) (ports : List PortView) (next : List (Option Time)) →
-      Fitted (run_of p n a b start) vp vn room room a.periods.items b.periods.items → IsBoundary (run_of p n a b start) t (whole parts links ports) (times_of a next) (times_of b next) → AreInOrder a b (length next) → t ≤ 500000000000 →
+      Fitted (run_of p n a b start) vp vn room room a.periods.items b.periods.items → IsBoundary (run_of p n a b start) t (whole parts links ports) (times_of a next) (times_of b next) → AreInOrder a b (length next) → t ≤ LATEST_TIME →
       items + 64 * (own_to a.wiring (length start.world.parts) + own_to b.wiring (length start.world.links)) ≤ room →
       RowAsks p vp a.wiring parts ports room items a b next
   first_asks p n start vp vn room items t a b parts links ports next fitted was order small enough =
@@ -120,7 +121,7 @@ module _ {P N : Type 0} where
       (sym order.start) (omega (arith, order.together)) (omega (arith, order.then, fitted.few, fitted.part_count, fitted.link_count)) (omega (arith, order.start, order.then, order.together)) (inl (omega (arith, order.start, order.then)))
 
   mid_is : (p : Machine P) (n : Machine N) (start : Start P N) (vp : P → Type 0) (vn : N → Type 0) (room t : ℕ) (a b : SideGear) (parts parts1 : List P) (links : List N) (ports ports1 : List PortView) (next next1 : List (Option Time)) (items items1 : List Record) (flag : Bool) (steps steps1 : ℕ) →
-      Fitted (run_of p n a b start) vp vn room room a.periods.items b.periods.items → IsBoundary (run_of p n a b start) t (whole parts links ports) (times_of a next) (times_of b next) → t ≤ 500000000000 →
+      Fitted (run_of p n a b start) vp vn room room a.periods.items b.periods.items → IsBoundary (run_of p n a b start) t (whole parts links ports) (times_of a next) (times_of b next) → t ≤ LATEST_TIME →
       Parted p a b t parts parts1 ports ports1 next next1 items items1 flag steps steps1 →
       IsMid (run_of p n a b start) t (whole parts1 links ports1) (times_of a next1) (times_of b next1)
   mid_is p n start vp vn room t a b parts parts1 links ports ports1 next next1 items items1 flag steps steps1 fitted was small did =
@@ -128,7 +129,7 @@ module _ {P N : Type 0} where
 
   -- what the links' pass asks then
   pub second_asks : (p : Machine P) (n : Machine N) (start : Start P N) (vp : P → Type 0) (vn : N → Type 0) (room room1 t : ℕ) (a b : SideGear) (w : Wires) (parts parts1 : List P) (links : List N) (ports ports1 : List PortView) (next next1 : List (Option Time)) (items items1 : List Record) (flag : Bool) (steps steps1 : ℕ) →
-      Fitted (run_of p n a b start) vp vn room room a.periods.items b.periods.items → IsBoundary (run_of p n a b start) t (whole parts links ports) (times_of a next) (times_of b next) → AreInOrder a b (length next) → t ≤ 500000000000 →
+      Fitted (run_of p n a b start) vp vn room room a.periods.items b.periods.items → IsBoundary (run_of p n a b start) t (whole parts links ports) (times_of a next) (times_of b next) → AreInOrder a b (length next) → t ≤ LATEST_TIME →
       length items + 64 * (own_to a.wiring (length start.world.parts) + own_to b.wiring (length start.world.links)) ≤ room →
       Parted p a b t parts parts1 ports ports1 next next1 items items1 flag steps steps1 → b.wiring ≡ w → room1 ≡ room → length next1 ≡ length next →
       RowAsks n vn w links ports1 room1 (length items1) b a next1
@@ -146,7 +147,7 @@ module _ {P N : Type 0} where
     pub steps_are : steps2 ≡ steps + awake_now (run_of p n a b start) t
 
   pub time_done : (p : Machine P) (n : Machine N) (start : Start P N) (vp : P → Type 0) (vn : N → Type 0) (room t : ℕ) (a b : SideGear) (parts parts1 : List P) (links links2 : List N) (ports ports1 ports2 : List PortView) (next next1 next2 : List (Option Time)) (items items1 items2 : List Record) (flag1 flag2 : Bool) (steps steps1 steps2 : ℕ) →
-      Fitted (run_of p n a b start) vp vn room room a.periods.items b.periods.items → IsBoundary (run_of p n a b start) t (whole parts links ports) (times_of a next) (times_of b next) → AreInOrder a b (length next) → t ≤ 500000000000 →
+      Fitted (run_of p n a b start) vp vn room room a.periods.items b.periods.items → IsBoundary (run_of p n a b start) t (whole parts links ports) (times_of a next) (times_of b next) → AreInOrder a b (length next) → t ≤ LATEST_TIME →
       Parted p a b t parts parts1 ports ports1 next next1 items items1 flag1 steps steps1 →
       Linked n a b t links links2 ports1 ports2 next1 next2 items1 items2 flag2 steps1 steps2 →
       TimeDone p n start t a b parts1 links2 ports2 next2 items items2 flag1 flag2 steps steps2
@@ -163,7 +164,7 @@ module _ {P N : Type 0} where
       }
 
 module _ {S : Type 0} where
-  can_pass : (m : Machine S) (valid : S → Type 0) (mine others : SideGear) (t : ℕ) (old : TurnState S) → RowAsks m valid mine.wiring old.actors old.rows.ports old.recs.room (length old.recs.items) mine others old.next → old.rows.seen ≡ map face_of old.rows.ports → t ≤ 500000000000 → CanPass m valid mine others t old
+  can_pass : (m : Machine S) (valid : S → Type 0) (mine others : SideGear) (t : ℕ) (old : TurnState S) → RowAsks m valid mine.wiring old.actors old.rows.ports old.recs.room (length old.recs.items) mine others old.next → old.rows.seen ≡ map face_of old.rows.ports → t ≤ LATEST_TIME → CanPass m valid mine others t old
   can_pass m valid mine others t old asks settled small = record {
     fits = asks.fits;
     sound = asks.sound;
@@ -186,7 +187,7 @@ module _ {P N : Type 0} where
     pub fitted : Fitted (run_of p n g.parts g.links start) vp vn g.recs.room g.recs.room g.parts.periods.items g.links.periods.items
     pub boundary : IsBoundary (run_of p n g.parts g.links start) t (whole w.parts.items w.links.items w.rows.ports) (times_of g.parts g.next) (times_of g.links g.next)
     pub ready : IsReady g (length w.parts.items) (length w.links.items) w.rows
-    pub time : t ≤ 500000000000
+    pub time : t ≤ LATEST_TIME
     pub room : length g.recs.items + 64 * (own_to g.parts.wiring (length start.world.parts) + own_to g.links.wiring (length start.world.links)) ≤ g.recs.room
 
   asks_first : (p : Machine P) (n : Machine N) (start : Start P N) (vp : P → Type 0) (vn : N → Type 0) (t : ℕ) (w : World P N) (g : RowGear) → CanTime p n start vp vn t w g → RowAsks p vp g.parts.wiring w.parts.items w.rows.ports g.recs.room (length g.recs.items) g.parts g.links g.next
