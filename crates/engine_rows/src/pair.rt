@@ -1,4 +1,5 @@
 ghost use Rattle.std.specs.Prelude.{◌≡◌, ◌≤◌, [], ◌∷◌, map, true, false, IfOk};
+ghost use Rattle.sim_base.specs.declared.time.TheConstants.{LATEST_TIME};
 ghost use Rattle.sim_base.specs.declared.numbers.PortNo.{PortNo};
 
 use sim_base::{LinkNo, Name, OutOfMemory, PartNo, PortNo, Time};
@@ -47,7 +48,7 @@ pub fn pair_plan<P: Actor + Drop, N: Actor + Drop>(
     requires first { P.machine.own first ≡ 1 }
     requires second { P.machine.own second ≡ 1 }
     requires link { N.machine.own link ≡ 2 }
-    requires early { until.0 ≤ 500000000000 }
+    requires early { until.0 ≤ LATEST_TIME }
 
     ensures parts { IfOk result (λ plan. plan.parts ≡ first ∷ second ∷ []) }
     ensures links { IfOk result (λ plan. plan.links ≡ link ∷ []) }

@@ -1,4 +1,5 @@
 ghost use Rattle.std.specs.Prelude.{◌≡◌, ◌<◌, ◌≤◌, [], ◌∷◌, IfOk};
+ghost use Rattle.sim_base.specs.declared.time.TheConstants.{LATEST_TIME, LONGEST_PERIOD};
 ghost use Rattle.part_kind.specs.Part.{part};
 ghost use Rattle.part_kind.specs.LinkKind.{link};
 ghost use Rattle.tick_law.specs.PlanView.{opening};
@@ -118,7 +119,7 @@ const ONE_READ: Asks = Asks {
 /// The agent at the port of its number, which asks at another port.
 fn open_agent(alloc: Global, no: u32, to: u32, asks: Asks) -> Result<Part, OutOfMemory>
     requires some { 1 ≤ asks.period }
-    requires short { asks.period ≤ 1000000000 }
+    requires short { asks.period ≤ LONGEST_PERIOD }
     requires count { asks.count ≤ 1000000 }
     requires gap { asks.gap ≤ 1000000 }
     ensures { IfOk result (λ agent. part.own agent ≡ 1) }
@@ -143,7 +144,7 @@ fn open_agent(alloc: Global, no: u32, to: u32, asks: Asks) -> Result<Part, OutOf
 /// The memory of 64 bytes at port 1, in which four requests can wait.
 fn open_memory(alloc: Global, period: u64, latency: u32) -> Result<Part, OutOfMemory>
     requires some { 1 ≤ period }
-    requires short { period ≤ 1000000000 }
+    requires short { period ≤ LONGEST_PERIOD }
     requires latency { latency ≤ 1000000 }
     ensures { IfOk result (λ memory. part.own memory ≡ 1) }
 {
@@ -185,13 +186,13 @@ fn agent_and_memory(
     until: u64,
 ) -> Result<Plan<Part, LinkKind>, OutOfMemory>
     requires asks_some { 1 ≤ asks.period }
-    requires asks_short { asks.period ≤ 1000000000 }
+    requires asks_short { asks.period ≤ LONGEST_PERIOD }
     requires count { asks.count ≤ 1000000 }
     requires gap { asks.gap ≤ 1000000 }
     requires some { 1 ≤ period }
-    requires short { period ≤ 1000000000 }
+    requires short { period ≤ LONGEST_PERIOD }
     requires latency { latency ≤ 1000000 }
-    requires until { until ≤ 500000000000 }
+    requires until { until ≤ LATEST_TIME }
 {
     let agent = open_agent(alloc, 0, 1, asks)?;
     let memory = open_memory(alloc, period, latency)?;

@@ -1,4 +1,5 @@
 ghost use Rattle.std.specs.Prelude.{◌≡◌, ◌≤◌, [], ◌∷◌, map, IfOk};
+ghost use Rattle.sim_base.specs.declared.time.TheConstants.{LATEST_TIME};
 ghost use Rattle.sim_base.specs.declared.numbers.PortNo.{PortNo};
 ghost use Rattle.part_kind.specs.Part.{part};
 ghost use Rattle.part_kind.specs.LinkKind.{link};
@@ -65,7 +66,7 @@ pub fn lone_plan(
     name: Name,
     until: Time,
 ) -> Result<Plan<Part, LinkKind>, OutOfMemory>
-    requires { until.0 ≤ 500000000000 }
+    requires { until.0 ≤ LATEST_TIME }
     ensures system { IfOk result (λ plan. system_of part link plan ≡ lone) }
     ensures until { IfOk result (λ plan. plan.until ≡ until.0) }
 {

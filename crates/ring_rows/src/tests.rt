@@ -1,4 +1,5 @@
 ghost use Rattle.std.specs.Prelude.{◌≡◌, ◌<◌, ◌≤◌};
+ghost use Rattle.sim_base.specs.declared.time.TheConstants.{LATEST_TIME};
 
 use crate::{lone_first_time, lone_plan};
 use direct_link::Direct;
@@ -25,7 +26,7 @@ fn run<L: Ledger>(
     requires name { blank.name ≡ L.name }
     requires parts { blank.parts ≡ L.parts }
     requires some { 0 < blank.parts }
-    requires time { until ≤ 500000000000 }
+    requires time { until ≤ LATEST_TIME }
 {
     let mut steps = Steps::<L>::open(blank);
     if until == 0 {
