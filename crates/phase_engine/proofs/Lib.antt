@@ -3,3 +3,4 @@ pub mod RunLaws
 pub mod TimesLaws
 pub mod OpenLaws
 pub mod EngineLaws
+pub mod AsleepLaws

@@ -6,6 +6,7 @@ ghost use Rattle.tick_law.specs.PlanView.{opening, system_from};
 ghost use Rattle.tick_law.specs.Verdict.{verdict_at, awake_below};
 ghost use Rattle.run_gear.specs.Written.{GotLines, GotSomeLines};
 ghost use Rattle.phase_engine.specs.RunGear.{AreNextTimes};
+ghost use Rattle.phase_engine.specs.Asleep.{WhoWaitsIsAsleep};
 
 use crate::advance::advance_due;
 use crate::run::Run;
@@ -89,6 +90,8 @@ impl<P: Actor + Drop, N: Actor + Drop, C: Charter<P, N>> Engine<P, N, C> {
             ≡ world_at (system_from P.machine N.machine C.plan C.start) self.new.at }
         ensures times { AreNextTimes
             (system_from P.machine N.machine C.plan C.start) self.new.at self.new.next }
+        ensures asleep { WhoWaitsIsAsleep (system_from P.machine N.machine C.plan C.start)
+            self.new.at self.new.world self.new.next }
         ensures end { self.new.end
             ≡ end_below (system_from P.machine N.machine C.plan C.start) self.new.at }
         ensures steps { steps.new ≡ steps.old
@@ -114,6 +117,8 @@ impl<P: Actor + Drop, N: Actor + Drop, C: Charter<P, N>> Engine<P, N, C> {
             (t.0 + 1) }
         ensures times { AreNextTimes (system_from P.machine N.machine C.plan C.start)
             (t.0 + 1) self.new.next }
+        ensures asleep { WhoWaitsIsAsleep (system_from P.machine N.machine C.plan C.start)
+            (t.0 + 1) self.new.world self.new.next }
         ensures end { self.new.end ≡ end_below (system_from P.machine N.machine C.plan C.start)
             (t.0 + 1) }
         ensures steps { steps.new

@@ -8,6 +8,7 @@ use Rattle.run_gear.specs.PlanNames.{names_of}
 use Rattle.phase_engine.specs.Engine.{EngineView}
 use Rattle.phase_engine.proofs.RunLaws.{from_beginning, awake_then}
 use Rattle.phase_engine.proofs.EngineLaws.{world_is}
+use Rattle.phase_engine.proofs.AsleepLaws.{who_waits}
 use Rattle.phase_engine.proofs.engine.Engine.run.Goals as goal
 
 pub returns-then-not-run_due-clause-prefix : goal.returns-then-not-run_due-clause-prefix
@@ -47,3 +48,9 @@ returns-clause-steps g c =
     let r = system_from g.P.Actor.machine g.N.Actor.machine g.C.Charter.plan g.C.Charter.start in
     let at : c.self.inside.run.at ≡ g.C.Charter.start.at = ap (λ (e : EngineView _ _). e.at) c.self.view_is ∙ c.requires.beginning in
     awake_then r c.self.inside.run.at c.run_due.new.run.at c.args.steps.now c.run_due.new.steps at c.run_due.ensures.steps
+
+pub returns-then-not-run_due-clause-asleep : goal.returns-then-not-run_due-clause-asleep
+returns-then-not-run_due-clause-asleep g c = who_waits g.P.Actor.machine g.N.Actor.machine g.P.Actor.valid g.N.Actor.valid g.C.Charter.plan g.C.Charter.start c.run_due.new.run c.run_due.ensures.run
+
+pub returns-clause-asleep : goal.returns-clause-asleep
+returns-clause-asleep g c = who_waits g.P.Actor.machine g.N.Actor.machine g.P.Actor.valid g.N.Actor.valid g.C.Charter.plan g.C.Charter.start c.run_due.new.run c.run_due.ensures.run
