@@ -2,3 +2,4 @@ pub mod BitsLemmas
 pub mod InstLemmas
 pub mod RowLemmas
 pub mod TableLemmas
+pub mod WordLemmas

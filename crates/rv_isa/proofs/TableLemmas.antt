@@ -6,11 +6,7 @@ use Rattle.rv_isa.specs.declared.op.Op.{Op}
 use Rattle.rv_isa.specs.declared.op.Op.TheVariants.{Lui, Auipc, Jal, Jalr, Beq, Bne, Blt, Bge, Bltu, Bgeu, Lb, Lh, Lw, Lbu, Lhu, Sb, Sh, Sw, Addi, Slti, Sltiu, Xori, Ori, Andi, Slli, Srli, Srai, Add, Sub, Sll, Slt, Sltu, Xor, Srl, Sra, Or, And, Fence, Ecall, Ebreak}
 use Rattle.rv_isa.specs.declared.format.Format.TheVariants.{Fence as FenceFormat, System}
 use Rattle.rv_isa.specs.declared.row.Row.{Row}
-use Rattle.rv_isa.specs.Table.{row_of, has_funct3, has_funct7, has_funct12, IsOfRow}
-
--- all instructions
-abbrev pub ops : List Op
-ops = Lui ∷ Auipc ∷ Jal ∷ Jalr ∷ Beq ∷ Bne ∷ Blt ∷ Bge ∷ Bltu ∷ Bgeu ∷ Lb ∷ Lh ∷ Lw ∷ Lbu ∷ Lhu ∷ Sb ∷ Sh ∷ Sw ∷ Addi ∷ Slti ∷ Sltiu ∷ Xori ∷ Ori ∷ Andi ∷ Slli ∷ Srli ∷ Srai ∷ Add ∷ Sub ∷ Sll ∷ Slt ∷ Sltu ∷ Xor ∷ Srl ∷ Sra ∷ Or ∷ And ∷ Fence ∷ Ecall ∷ Ebreak ∷ []
+use Rattle.rv_isa.specs.Table.{row_of, has_funct3, has_funct7, has_funct12, IsOfRow, ops}
 
 -- where each instruction stands among them
 pub placed : (op : Op) → (k : ℕ) × (slice_get ops k ≡ Some op)

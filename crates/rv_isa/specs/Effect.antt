@@ -1,8 +1,11 @@
 -- What the instructions do: "Integer Computational Instructions" (2.4), "Control Transfer Instructions" (2.5), "Load and Store Instructions" (2.6), "Memory Ordering Instructions" (2.7) and "Environment Call and Breakpoints" (2.8) of the chapter "RV32I Base Integer Instruction Set".
-use Rattle.std.specs.Prelude.{◌≡◌, ℕ, ◌+◌, ◌-◌, ◌*◌, ◌/◌, ◌%◌, ◌^◌, ◌<◌, ◌==◌, nat_lt, not, cond, Bool, true, false, List, bit_and, bit_or, bit_xor, int_lt}
+use Rattle.std.specs.Prelude.{◌≡◌, ◌⊎◌, ℕ, ◌+◌, ◌-◌, ◌*◌, ◌/◌, ◌%◌, ◌^◌, ◌<◌, ◌==◌, nat_lt, not, cond, Bool, true, false, List, Option, Some, None, bit_and, bit_or, bit_xor, int_lt}
 use Rattle.std.specs.Int.{w32, cast_signed, cast_unsigned}
 use Rattle.std.specs.Int.Signed.{shr_z}
+use Rattle.rv_isa.specs.Bits.{sign_extended}
+use Rattle.rv_isa.specs.Format.{rd_of, rs1_of, rs2_of, immediate_of}
 use Rattle.rv_isa.specs.Regs.{register}
+use Rattle.rv_isa.specs.Table.{format_of, op_of}
 use Rattle.rv_isa.specs.declared.op.Op.{Op}
 use Rattle.rv_isa.specs.declared.op.Op.TheVariants.{Lui, Auipc, Jal, Jalr, Beq, Bne, Blt, Bge, Bltu, Bgeu, Lb, Lh, Lw, Lbu, Lhu, Sb, Sh, Sw, Addi, Slti, Sltiu, Xori, Ori, Andi, Slli, Srli, Srai, Add, Sub, Sll, Slt, Sltu, Xor, Srl, Sra, Or, And, Fence, Ecall, Ebreak}
 use Rattle.rv_isa.specs.declared.inst.Inst.{Inst}
@@ -122,3 +125,38 @@ GoesToWord FenceEffect = Unit {0}
 GoesToWord Call = Unit {0}
 GoesToWord Break = Unit {0}
 GoesToWord BadTarget = Unit {0}
+
+-- the number of bytes of a load or a store
+abbrev pub IsWidth : ℕ → Type 0
+IsWidth bytes = (bytes ≡ 1) ⊎ (bytes ≡ 2) ⊎ (bytes ≡ 4)
+
+-- a load or a store has 1, 2 or 4 bytes
+abbrev pub HasWidth : Effect → Type 0
+HasWidth (Go rd value next) = Unit {0}
+HasWidth (Load rd bytes signed addr) = IsWidth bytes
+HasWidth (Store bytes addr value) = IsWidth bytes
+HasWidth FenceEffect = Unit {0}
+HasWidth Call = Unit {0}
+HasWidth Break = Unit {0}
+HasWidth BadTarget = Unit {0}
+
+-- the low bytes of a word
+abbrev pub low_bytes : ℕ → ℕ → ℕ
+low_bytes bytes word = word % 2 ^ (8 * bytes)
+
+-- what a load writes: the low bytes of a word, with copies of their sign above them or with zeros
+abbrev pub loaded : ℕ → Bool → ℕ → ℕ
+loaded bytes signed word = cond signed (sign_extended (8 * bytes - 1) (low_bytes bytes word)) (low_bytes bytes word)
+
+-- the effect of an instruction that has its registers and its immediate from a word
+abbrev pub effect_by : List ℕ → ℕ → ℕ → Op → Effect
+effect_by regs pc word op =
+    effect op pc (rd_of (format_of op) word) (register regs (rs1_of (format_of op) word)) (register regs (rs2_of (format_of op) word)) (immediate_of (format_of op) word)
+
+abbrev pub effect_if : List ℕ → ℕ → ℕ → Option Op → Option Effect
+effect_if regs pc word None = None
+effect_if regs pc word (Some op) = Some (effect_by regs pc word op)
+
+-- the effect of the instruction that a word spells, or none where it spells none
+abbrev pub word_effect : List ℕ → ℕ → ℕ → Option Effect
+word_effect regs pc word = effect_if regs pc word (op_of word)

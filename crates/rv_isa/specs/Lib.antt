@@ -1,5 +1,6 @@
 pub mod Bits
 pub mod Effect
+pub mod EffectLaws
 pub mod Format
 pub mod Inst
 pub mod Regs

@@ -1,5 +1,5 @@
 -- The table of RV32I: "RV32I Base Instruction Set" of the chapter "RV32/64G Instruction Set Listings".
-use Rattle.std.specs.Prelude.{◌≡◌, ℕ, Bool, true, false, IsTrue}
+use Rattle.std.specs.Prelude.{◌≡◌, ℕ, ◌==◌, ◌&&◌, cond, Bool, true, false, IsTrue, List, [], ◌∷◌, Option, Some, None}
 use Rattle.rv_isa.specs.declared.format.Format.{Format}
 use Rattle.rv_isa.specs.declared.format.Format.TheVariants.{R, I, Shift, S, B, U, J, Fence as FenceFormat, System}
 use Rattle.rv_isa.specs.declared.op.Op.{Op}
@@ -99,3 +99,28 @@ pub record IsOfRow (word : ℕ) (r : Row) : Type 0 where
   pub funct12 : IsTrue (has_funct12 r.format) → field 20 12 word ≡ r.funct12
   pub no_rd : IsTrue (has_funct12 r.format) → field 7 5 word ≡ 0
   pub no_rs1 : IsTrue (has_funct12 r.format) → field 15 5 word ≡ 0
+
+-- all instructions
+abbrev pub ops : List Op
+ops = Lui ∷ Auipc ∷ Jal ∷ Jalr ∷ Beq ∷ Bne ∷ Blt ∷ Bge ∷ Bltu ∷ Bgeu ∷ Lb ∷ Lh ∷ Lw ∷ Lbu ∷ Lhu ∷ Sb ∷ Sh ∷ Sw ∷ Addi ∷ Slti ∷ Sltiu ∷ Xori ∷ Ori ∷ Andi ∷ Slli ∷ Srli ∷ Srai ∷ Add ∷ Sub ∷ Sll ∷ Slt ∷ Sltu ∷ Xor ∷ Srl ∷ Sra ∷ Or ∷ And ∷ Fence ∷ Ecall ∷ Ebreak ∷ []
+
+-- a field that the row fixes has its bits
+abbrev pub fits_where : Bool → Bool → Bool
+fits_where fixed same = cond fixed same true
+
+-- the same as a test: the word is one of the row
+abbrev pub fits : ℕ → Row → Bool
+fits word r =
+    let three = fits_where (has_funct3 r.format) (field 12 3 word == r.funct3) in
+    let seven = fits_where (has_funct7 r.format) (field 25 7 word == r.funct7) in
+    let twelve = fits_where (has_funct12 r.format) ((field 20 12 word == r.funct12) && ((field 7 5 word == 0) && (field 15 5 word == 0))) in
+    (field 0 7 word == r.opcode) && (three && (seven && twelve))
+
+-- the first of these instructions whose row the word is of
+abbrev pub first_of : List Op → ℕ → Option Op
+first_of [] word = None
+first_of (op ∷ others) word = cond (fits word (row_of op)) (Some op) (first_of others word)
+
+-- the instruction whose row the word is of, if there is one
+unfoldable pub op_of : ℕ → Option Op
+op_of word = first_of ops word

@@ -1,6 +1,7 @@
-ghost use Rattle.std.specs.Prelude.{◌≡◌, ◌%◌};
-ghost use Rattle.rv_isa.specs.Effect.{effect_of, jump, branch, write, is_less_signed, shifted_right_signed, NamesRegister, GoesToWord};
+ghost use Rattle.std.specs.Prelude.{◌≡◌, ◌%◌, IfSome};
+ghost use Rattle.rv_isa.specs.Effect.{effect_of, word_effect, jump, branch, write, is_less_signed, shifted_right_signed, NamesRegister, GoesToWord, HasWidth};
 
+use crate::decoding::decode;
 use crate::effect::Effect;
 use crate::inst::Inst;
 use crate::op::Op;
@@ -12,6 +13,7 @@ pub fn exec(regs: &Regs, pc: u32, inst: Inst) -> Effect
     ensures effect { result ≡ effect_of regs.now pc inst }
     ensures register { NamesRegister result }
     ensures word { pc % 4 ≡ 0 → GoesToWord result }
+    ensures width { HasWidth result }
 {
     let Inst { op, rd, imm, .. } = inst;
     let first = regs.get(inst.rs1);
@@ -58,6 +60,19 @@ pub fn exec(regs: &Regs, pc: u32, inst: Inst) -> Effect
         Op::Fence => Effect::Fence,
         Op::Ecall => Effect::Call,
         Op::Ebreak => Effect::Break,
+    }
+}
+
+/// What the instruction that a word spells does with these registers, at the address `pc`, or None where it spells none.
+pub fn word_effect(regs: &Regs, pc: u32, word: u32) -> Option<Effect>
+    ensures effect { result ≡ word_effect regs.now pc word }
+    ensures register { IfSome result (λ effect. NamesRegister effect) }
+    ensures word { pc % 4 ≡ 0 → IfSome result (λ effect. GoesToWord effect) }
+    ensures width { IfSome result (λ effect. HasWidth effect) }
+{
+    match decode(word) {
+        Ok(inst) => Some(exec(regs, pc, inst)),
+        Err(_) => None,
     }
 }
 
