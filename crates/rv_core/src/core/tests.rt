@@ -1,4 +1,4 @@
-ghost use Rattle.std.specs.Prelude.{◌≡◌, ◌<◌, ◌≤◌, length, IfOk, All, AllPairs};
+ghost use Rattle.std.specs.Prelude.{◌≡◌, ◌<◌, ◌≤◌, [], ◌∷◌, length, IfOk, All, AllPairs};
 ghost use Rattle.addr_map.specs.Range.{IsRange, Apart};
 
 use super::*;
@@ -26,18 +26,25 @@ struct After {
     served: u32,
 }
 
+/// The addresses of the memory.
+fn memory_range(alloc: Global) -> Result<Range, OutOfMemory>
+    ensures { IfOk result (λ range. range ≡ record { base = 0; size = 512; granule = 64; to = MEMORY ∷ [] }) }
+{
+    let to = Targets::of(Vec::from_slice(alloc, &[MEMORY])?);
+    Ok(Range {
+        base: 0,
+        size: 512,
+        granule: 64,
+        to,
+    })
+}
+
 /// The map of the memory.
 fn memory_map(alloc: Global) -> Result<Ranges, OutOfMemory>
     ensures shape { IfOk result (λ ranges. All IsRange ranges) }
     ensures apart { IfOk result (λ ranges. AllPairs Apart ranges) }
 {
-    let to = Targets::of(Vec::from_slice(alloc, &[MEMORY])?);
-    let range = Range {
-        base: 0,
-        size: 512,
-        granule: 64,
-        to,
-    };
+    let range = memory_range(alloc)?;
     let mut ranges = Vec::new(alloc);
     ranges.push(range)?;
     Ok(Ranges::of(ranges))
@@ -119,21 +126,22 @@ fn written(recs: &RecList) -> Option<u8> {
     None
 }
 
-/// One step of the core.
-fn step<L: Ledger>(
+/// One step of the core, and the answers to what it sent: the byte that was written, and how many answers there were.
+fn turn<L: Ledger>(
+    alloc: Global,
     core: &mut Core,
     ports: &mut Ports,
-    recs: &mut RecList,
+    memory: &mut [u8],
     steps: &mut Steps<L>,
-) -> Option<u8>
-    requires ports { length ports.old.ports ≡ 2 }
-    requires room { recs.old.room ≡ 128 }
-    ensures long { length ports.new.ports ≡ 2 }
-    ensures room { recs.new.room ≡ 128 }
-{
-    recs.clear();
-    let _ = core.tick(ports, 0, recs, steps);
-    written(recs)
+) -> Result<(Option<u8>, u32), OutOfMemory> {
+    if ports.len() != 2 {
+        return Ok((None, 0));
+    }
+    let mut recs = RecList::open(alloc, 128)?;
+    let _ = core.tick(ports, 0, &mut recs, steps);
+    let fetched = serve(ports, 0, memory);
+    let served = fetched + serve(ports, 1, memory);
+    Ok((written(&recs), served))
 }
 
 /// The memory with these words from address 0 on.
@@ -148,7 +156,7 @@ fn memory_of(words: &[u32]) -> [u8; SIZE] {
 }
 
 /// Runs a program from address 0 on, for at most 64 steps.
-fn run<L: Ledger>(
+fn run_counted<L: Ledger>(
     alloc: Global,
     blank: Blank,
     words: &[u32],
@@ -162,15 +170,12 @@ fn run<L: Ledger>(
     let mut memory = memory_of(words);
     let mut core = open_core(alloc, caches)?;
     let mut ports = open_row(alloc)?;
-    let mut recs = RecList::open(alloc, 128)?;
     let mut out = None;
     let mut served: u32 = 0;
     for _ in 0..64 {
-        if let Some(byte) = step(&mut core, &mut ports, &mut recs, &mut steps) {
-            out = Some(byte);
-        }
-        served = served.wrapping_add(serve(&mut ports, 0, &mut memory));
-        served = served.wrapping_add(serve(&mut ports, 1, &mut memory));
+        let (byte, answers) = turn(alloc, &mut core, &mut ports, &mut memory, &mut steps)?;
+        out = byte.or(out);
+        served = served.wrapping_add(answers);
     }
     Ok(After {
         cause: core.cause(),
@@ -181,6 +186,11 @@ fn run<L: Ledger>(
         word: [memory[256], memory[257], memory[258], memory[259]],
         served,
     })
+}
+
+/// The same with a counter of its own.
+fn run(alloc: Global, words: &[u32], caches: &[PortNo]) -> Result<After, OutOfMemory> {
+    run_counted::<Brand>(alloc, Blank::new(1), words, caches)
 }
 
 #[test]
@@ -199,7 +209,7 @@ fn a_program_reads_and_writes_and_ends(rt: HostRuntime) -> Result<(), OutOfMemor
         0x0000_8067,
         0x0000_0073,
     ];
-    let after = run::<Brand>(rt.alloc(), Blank::new(1), &words, &[])?;
+    let after = run(rt.alloc(), &words, &[])?;
     let expected = After {
         cause: Some(Cause::Exit(7)),
         pc: 0x2c,
@@ -254,7 +264,7 @@ fn a_halt_keeps_pc_at_its_instruction(rt: HostRuntime) -> Result<(), OutOfMemory
         ),
     ];
     for (words, cause, pc, retired, served) in rows {
-        let after = run::<Brand>(alloc, Blank::new(1), &words, &[])?;
+        let after = run(alloc, &words, &[])?;
         assert_eq!(rt; after.cause, Some(cause));
         assert_eq!(rt; after.pc, pc, "{cause:?}");
         assert_eq!(rt; after.retired, retired, "{cause:?}");
@@ -267,7 +277,7 @@ fn a_halt_keeps_pc_at_its_instruction(rt: HostRuntime) -> Result<(), OutOfMemory
 #[test]
 fn a_byte_is_written(rt: HostRuntime) -> Result<(), OutOfMemory> {
     let words = [0x0410_0513, 0x0010_0893, 0x73, 0x05d0_0893, 0x73];
-    let after = run::<Brand>(rt.alloc(), Blank::new(1), &words, &[])?;
+    let after = run(rt.alloc(), &words, &[])?;
     assert_eq!(rt; after.out, Some(0x41));
     assert_eq!(rt; after.cause, Some(Cause::Exit(65)));
     assert_eq!(rt; (after.pc, after.retired, after.served), (0x10, 5, 5));
@@ -288,7 +298,7 @@ fn a_fence_flushes_the_caches(rt: HostRuntime) -> Result<(), OutOfMemory> {
     ];
     let two = [PortNo(7), PortNo(5)];
     for (caches, served) in [(&two[..0], 8), (&two[..1], 9), (&two[..], 10)] {
-        let after = run::<Brand>(alloc, Blank::new(1), &words, caches)?;
+        let after = run(alloc, &words, caches)?;
         assert_eq!(rt; after.cause, Some(Cause::Exit(0)));
         assert_eq!(rt; (after.pc, after.retired, after.served), (0x14, 6, served));
     }
