@@ -1,11 +1,12 @@
 -- The table of RV32I: "RV32I Base Instruction Set" of the chapter "RV32/64G Instruction Set Listings".
-use Rattle.std.specs.Prelude.{◌≡◌, ℕ, ◌==◌, ◌&&◌, cond, Bool, true, false, IsTrue, List, [], ◌∷◌, Option, Some, None}
+use Rattle.std.specs.Prelude.{◌≡◌, ◌<◌, ℕ, ◌==◌, ◌&&◌, cond, Bool, true, false, IsTrue, List, [], ◌∷◌, Option, Some, None}
 use Rattle.rv_isa.specs.declared.format.Format.{Format}
 use Rattle.rv_isa.specs.declared.format.Format.TheVariants.{R, I, Shift, S, B, U, J, Fence as FenceFormat, System}
 use Rattle.rv_isa.specs.declared.op.Op.{Op}
 use Rattle.rv_isa.specs.declared.op.Op.TheVariants.{Lui, Auipc, Jal, Jalr, Beq, Bne, Blt, Bge, Bltu, Bgeu, Lb, Lh, Lw, Lbu, Lhu, Sb, Sh, Sw, Addi, Slti, Sltiu, Xori, Ori, Andi, Slli, Srli, Srai, Add, Sub, Sll, Slt, Sltu, Xor, Srl, Sra, Or, And, Fence, Ecall, Ebreak}
 use Rattle.rv_isa.specs.declared.row.Row.{Row}
 use Rattle.rv_isa.specs.Bits.{field}
+use Rattle.rv_isa.specs.Format.{has_rd, has_rs1, has_rs2, is_immediate}
 
 -- a row: the format, the opcode, funct3, funct7 and funct12, each 0 where the format does not fix it
 abbrev pub row : Format → ℕ → ℕ → ℕ → ℕ → Row
@@ -124,3 +125,13 @@ first_of (op ∷ others) word = cond (fits word (row_of op)) (Some op) (first_of
 -- the instruction whose row the word is of, if there is one
 unfoldable pub op_of : ℕ → Option Op
 op_of word = first_of ops word
+
+-- the registers and the immediate that an instruction can have
+pub record IsInst (op : Op) (rd rs1 rs2 imm : ℕ) : Type 0 where
+  pub small_rd : rd < 32
+  pub small_rs1 : rs1 < 32
+  pub small_rs2 : rs2 < 32
+  pub without_rd : has_rd (format_of op) ≡ false → rd ≡ 0
+  pub without_rs1 : has_rs1 (format_of op) ≡ false → rs1 ≡ 0
+  pub without_rs2 : has_rs2 (format_of op) ≡ false → rs2 ≡ 0
+  pub spelled : IsTrue (is_immediate (format_of op) imm)

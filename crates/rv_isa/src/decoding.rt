@@ -6,14 +6,17 @@ ghost use Rattle.rv_isa.specs.Inst.{Spells};
 
 use crate::inst::Inst;
 use crate::op_code::op_of;
+use thiserror::Error;
 
 /// A word that is no instruction of RV32I.
-#[derive(Clone, Copy, Debug, PartialEq, Eq)]
+#[derive(Clone, Copy, Debug, PartialEq, Eq, Error)]
+#[error("{word:#010x} is no instruction of RV32I")]
 pub struct Illegal {
     pub word: u32,
 }
 
-/// The instruction that a word spells.
+/// The instruction that a word spells. A word is refused exactly where it is of no row of the table: so are 16-bit
+/// words, words of the extensions, and ECALL or EBREAK with any other field set. A FENCE may have any other fields.
 pub fn decode(word: u32) -> Result<Inst, Illegal>
     ensures spelled { IfOk result (λ inst. Spells word inst) }
     ensures only { (inst : Inst) → Spells word inst → result ≡ Ok inst }

@@ -6,7 +6,8 @@ use crate::format::Format;
 use crate::inst::Inst;
 use crate::op::Op;
 
-/// The word that spells an instruction. FENCE is the word 0x0000000F.
+/// The word that spells an instruction: `decode` reads it back as this instruction. The word of an instruction that was
+/// decoded is the word that it was decoded from, but for FENCE, whose many words are all written as 0x0000000F.
 #[tactic(auto, using(crate::proofs::TableLemmas::row_bounds, crate::proofs::TableLemmas::fence_row))]
 pub fn encode(inst: Inst) -> u32
     ensures spelled { Spells result inst }

@@ -1,5 +1,5 @@
-ghost use Rattle.std.specs.Prelude.{◌≡◌};
-ghost use Rattle.rv_isa.specs.Format.{rd_of, rs1_of, rs2_of, immediate_of};
+ghost use Rattle.std.specs.Prelude.{◌≡◌, ◌<◌};
+ghost use Rattle.rv_isa.specs.Format.{has_rd, has_rs1, has_rs2, is_signed_by, is_immediate, rd_of, rs1_of, rs2_of, immediate_of};
 
 use crate::bits::{field, register};
 use crate::immediate::{immediate_b, immediate_i, immediate_j, immediate_s, immediate_u};
@@ -25,6 +25,14 @@ pub enum Format {
     Fence,
     /// ECALL and EBREAK: one word each.
     System,
+}
+
+/// Whether a number is one from -2^sign to 2^sign - 1, modulo 2^32.
+fn is_signed_by(sign: u32, imm: u32) -> bool
+    requires { sign < 31 }
+    ensures { result ≡ is_signed_by sign imm }
+{
+    imm < 1 << sign || imm >= u32::MAX - (1 << sign) + 1
 }
 
 impl Format {
@@ -70,6 +78,47 @@ impl Format {
             Format::U => immediate_u(word),
             Format::J => immediate_j(word),
             Format::R | Format::Fence | Format::System => 0,
+        }
+    }
+
+    /// Whether words of this format name a register to write.
+    pub fn has_rd(self) -> bool
+        ensures { result ≡ has_rd self }
+    {
+        matches!(
+            self,
+            Format::R | Format::I | Format::Shift | Format::U | Format::J
+        )
+    }
+
+    /// Whether they name a first register to read.
+    pub fn has_rs1(self) -> bool
+        ensures { result ≡ has_rs1 self }
+    {
+        matches!(
+            self,
+            Format::R | Format::I | Format::Shift | Format::S | Format::B
+        )
+    }
+
+    /// Whether they name a second register to read.
+    pub fn has_rs2(self) -> bool
+        ensures { result ≡ has_rs2 self }
+    {
+        matches!(self, Format::R | Format::S | Format::B)
+    }
+
+    /// Whether a number is an immediate that words of this format can spell.
+    pub fn has_immediate(self, imm: u32) -> bool
+        ensures { result ≡ is_immediate self imm }
+    {
+        match self {
+            Format::I | Format::S => is_signed_by(11, imm),
+            Format::Shift => imm < 32,
+            Format::B => imm % 2 == 0 && is_signed_by(12, imm),
+            Format::U => imm % 4096 == 0,
+            Format::J => imm % 2 == 0 && is_signed_by(20, imm),
+            Format::R | Format::Fence | Format::System => imm == 0,
         }
     }
 }

@@ -1,6 +1,6 @@
-ghost use Rattle.std.specs.Prelude.{◌≡◌, ◌<◌, false, IsTrue};
+ghost use Rattle.std.specs.Prelude.{◌≡◌, ◌<◌, ◌↔◌, false, IsTrue, IsSome, IfSome};
 ghost use Rattle.rv_isa.specs.Format.{has_rd, has_rs1, has_rs2, is_immediate};
-ghost use Rattle.rv_isa.specs.Table.{format_of};
+ghost use Rattle.rv_isa.specs.Table.{format_of, IsInst};
 
 use crate::op::Op;
 
@@ -24,4 +24,63 @@ pub struct Inst {
     pub ghost without_rs1: { has_rs1 (format_of op) ≡ false → rs1 ≡ 0 },
     pub ghost without_rs2: { has_rs2 (format_of op) ≡ false → rs2 ≡ 0 },
     pub ghost spelled: { IsTrue (is_immediate (format_of op) imm) },
+}
+
+impl Inst {
+    /// The instruction with these registers and this immediate, as they are known when the program runs; None where a
+    /// register is not below 32, where one that the instruction does not have is not 0, or where no word of it has
+    /// the immediate.
+    pub fn of(op: Op, rd: u8, rs1: u8, rs2: u8, imm: u32) -> Option<Inst>
+        ensures some { IsSome result ↔ IsInst op rd rs1 rs2 imm }
+        ensures op { IfSome result (λ inst. inst.op ≡ op) }
+        ensures rd { IfSome result (λ inst. inst.rd ≡ rd) }
+        ensures rs1 { IfSome result (λ inst. inst.rs1 ≡ rs1) }
+        ensures rs2 { IfSome result (λ inst. inst.rs2 ≡ rs2) }
+        ensures imm { IfSome result (λ inst. inst.imm ≡ imm) }
+    {
+        let format = op.row().format;
+        if rd >= 32 || rs1 >= 32 || rs2 >= 32 {
+            return None;
+        }
+        if (!format.has_rd() && rd != 0)
+            || (!format.has_rs1() && rs1 != 0)
+            || (!format.has_rs2() && rs2 != 0)
+        {
+            return None;
+        }
+        if !format.has_immediate(imm) {
+            return None;
+        }
+        Some(Inst {
+            op,
+            rd,
+            rs1,
+            rs2,
+            imm,
+        })
+    }
+}
+
+#[cfg(test)]
+mod tests {
+    use super::*;
+    use crate::encoding::encode;
+
+    /// ADDI to x1 with immediates of 12 bits, as the GNU assembler makes them, and with others.
+    #[test]
+    fn an_immediate_is_tried_when_the_program_runs(rt: HostRuntime) {
+        let rows = [
+            (0x7ff, Some(0x7ff0_0093)),
+            (0xffff_f800, Some(0x8000_0093)),
+            (0xffff_ffff, Some(0xfff0_0093)),
+            (0x800, None),
+            (0xffff_f7ff, None),
+        ];
+        for (imm, word) in rows {
+            let inst = Inst::of(Op::Addi, 1, 0, 0, imm);
+            assert_eq!(rt; inst.map(encode), word, "{imm:#x}");
+        }
+        assert_eq!(rt; Inst::of(Op::Addi, 32, 0, 0, 0), None);
+        assert_eq!(rt; Inst::of(Op::Addi, 1, 0, 3, 0), None);
+    }
 }

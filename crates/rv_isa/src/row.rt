@@ -62,7 +62,7 @@ impl Row {
 impl Op {
     /// The row of this instruction in the table of RV32I.
     #[tactic(auto, unfolding(crate::specs::Table::row_of))]
-    pub fn row(self) -> Row
+    pub(crate) fn row(self) -> Row
         ensures { result ≡ row_of self }
     {
         match self {
