@@ -2,13 +2,12 @@ use crate::ElfRule;
 use sim_base::OutOfMemory;
 use thiserror::Error;
 
-/// Why a file was not loaded.
+/// Why a file was not loaded: `Broken` has the first rule that the file breaks, and the byte place where it does;
+/// `OutOfMemory` says that no memory was found for the list of segments, of a file that breaks no rule.
 #[derive(Clone, Copy, Debug, PartialEq, Eq, Error)]
 pub enum ElfFault {
-    /// The first rule that the file breaks, and the byte place where it does.
     #[error("{rule} at {at}")]
     Broken { rule: ElfRule, at: u32 },
-    /// No memory was found for the list of segments.
     #[error("no memory")]
     OutOfMemory,
 }

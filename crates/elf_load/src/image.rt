@@ -9,8 +9,11 @@ use sim_base::Body;
 /// their headers. A later segment wins where two overlap.
 #[derive(Drop)]
 pub struct Image {
+    /// The address at which it begins. No rule is asked of it: it may be odd, or outside every segment.
     pub entry: u32,
+    /// The bytes of the file, at most 8388608.
     pub file: Body,
+    /// One for each load, in the order of the headers.
     pub segments: Segments,
     ghost short: { length file ≤ 8388608 },
     ghost sound: { All (IsSound (length file)) segments },

@@ -4,6 +4,9 @@ ghost use Rattle.elf_load.specs.Rule.{word_of};
 use std::fmt;
 
 /// A rule of the format that a file may break, in the order in which the rules are tried.
+///
+/// The last three are tried header by header, in this order at each, of the headers that are loads: those of type
+/// PT_LOAD that take more than 0 bytes of memory. Other headers may hold anything.
 #[derive(Clone, Copy, Debug, PartialEq, Eq)]
 pub enum ElfRule {
     /// The file has at most 8388608 bytes.
@@ -22,15 +25,17 @@ pub enum ElfRule {
     FileType,
     /// The machine is RISC-V, EM_RISCV.
     Machine,
-    /// The ELF header has 52 bytes, and an entry of the program header table has 32.
+    /// The ELF header has 52 bytes, and an entry of the program header table has 32. The second is not asked of a file
+    /// without program headers.
     HeaderSize,
-    /// The program header table ends within the file.
+    /// The program header table ends within the file. It is not asked of a file without program headers, whose table
+    /// may be said to stand anywhere.
     TableOutside,
-    /// The bytes of a segment end within the file.
+    /// The bytes of a segment end within the file. A segment without bytes in the file may have any offset.
     SegmentOutside,
     /// A segment has no more bytes in the file than in memory.
     FileOverMemory,
-    /// The memory of a segment ends at 2^32 at the latest.
+    /// The memory of a segment ends at 2^32 at the latest: its address plus its size may be 2^32.
     AddressWraps,
 }
 
