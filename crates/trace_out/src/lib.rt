@@ -2,7 +2,9 @@
 #![tactic(auto)]
 
 mod line;
+mod message;
 mod names;
+mod record_line;
 mod write;
 
 pub use line::{Line, add};

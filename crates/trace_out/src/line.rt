@@ -1,21 +1,24 @@
-ghost use Rattle.std.specs.Prelude.{◌≡◌, ◌+◌, ◌<◌, ◌≤◌, false, ◌++◌, length};
-ghost use Rattle.std.specs.Fmt.{digit_glyph};
+ghost use Rattle.std.specs.Prelude.{◌≡◌, ℕ, ◌+◌, ◌*◌, ◌≤◌, ◌++◌, length, codes, decimal};
+ghost use Rattle.hex.specs.Hex.{encode_lower};
 ghost use Rattle.arrayvec.specs.ArrayVec.{array_vec_len};
-ghost use Rattle.trace_out.specs.Lines.{hex_byte, out_line};
+ghost use Rattle.trace_out.specs.Lines.{name_text, spaced};
 
 use arrayvec::ArrayVec;
 use itoa::Buffer;
-use sim_base::{Name, Time};
+use sim_base::Name;
 
-/// The most bytes of a line of a trace: 20 digits of a time, ` out `, a name, a blank, 2 digits of a byte, and the line feed.
-const LONGEST_LINE: usize = 61;
+/// Room for every line of a trace: the longest has 413 bytes.
+pub(crate) const LINE_ROOM: usize = 448;
 
-/// A line as it is made, of at most 61 bytes. It takes no memory.
-pub type Line = ArrayVec<u8, LONGEST_LINE>;
+/// The most data bytes of a message.
+const DATA_BYTES: usize = 64;
+
+/// A line as it is made. It takes no memory.
+pub type Line = ArrayVec<u8, LINE_ROOM>;
 
 /// Appends a piece, for which there is room.
 pub fn add(line: &mut Line, piece: &[u8])
-    requires room { array_vec_len line.old + length piece.now ≤ LONGEST_LINE }
+    requires room { array_vec_len line.old + length piece.now ≤ LINE_ROOM }
 
     ensures { line.new.items ≡ line.old.items ++ piece.now }
 {
@@ -23,35 +26,41 @@ pub fn add(line: &mut Line, piece: &[u8])
     prove!(added.is_ok());
 }
 
-/// The lower-case hexadecimal digit of a number below 16.
-fn hex_digit(value: u8) -> u8
-    requires { value < 16 }
-    ensures { result ≡ digit_glyph false value }
-{
-    if value < 10 {
-        b'0' + value
-    } else {
-        b'a' + (value - 10)
-    }
-}
+/// Appends a number, in decimal digits.
+pub(crate) fn add_number(line: &mut Line, number: u64)
+    requires room { array_vec_len line.old + 20 ≤ LINE_ROOM }
 
-fn hex_byte(byte: u8) -> [u8; 2]
-    ensures { result ≡ hex_byte byte }
-{
-    [hex_digit(byte / 16), hex_digit(byte % 16)]
-}
-
-/// The line of a byte that a core wrote.
-pub fn out_line(at: Time, name: Name, byte: u8) -> Line
-    ensures { result.items ≡ out_line at.0 name byte }
+    ensures added { line.new.items ≡ line.old.items ++ decimal number }
+    ensures long { array_vec_len line.new ≤ array_vec_len line.old + 20 }
 {
     let mut digits = Buffer::new();
-    let mut line = Line::new();
-    add(&mut line, digits.format(at.0).as_bytes());
-    add(&mut line, b" out ");
-    add(&mut line, name.text());
-    add(&mut line, b" ");
-    add(&mut line, &hex_byte(byte));
-    add(&mut line, b"\n");
-    line
+    add(line, digits.format(number).as_bytes());
+}
+
+/// Appends bytes, each as two lower-case hexadecimal digits.
+pub(crate) fn add_hex(line: &mut Line, bytes: &[u8])
+    requires few { length bytes.now ≤ DATA_BYTES }
+    requires room { array_vec_len line.old + 2 * length bytes.now ≤ LINE_ROOM }
+
+    ensures added { line.new.items ≡ line.old.items ++ encode_lower bytes.now }
+    ensures long { array_vec_len line.new ≡ array_vec_len line.old + 2 * length bytes.now }
+{
+    let mut digits = [0; 2 * DATA_BYTES];
+    let digits = &mut digits[..2 * bytes.len()];
+    let encoded = hex::encode_to_slice(bytes, digits);
+    prove!(encoded.is_ok());
+    add(line, digits);
+}
+
+/// Appends a name, or `?` where there is none.
+pub(crate) fn add_name(line: &mut Line, name: Option<Name>)
+    requires room { array_vec_len line.old + 32 ≤ LINE_ROOM }
+
+    ensures added { line.new.items ≡ line.old.items ++ name_text name }
+    ensures long { array_vec_len line.new ≤ array_vec_len line.old + 32 }
+{
+    match name {
+        Some(name) => add(line, name.text()),
+        None => add(line, b"?"),
+    }
 }

@@ -1,6 +1,6 @@
 ghost use Rattle.std.specs.Prelude.{◌≡◌, IfOk, slice_get};
 
-use sim_base::{ActorNo, LinkNo, Name, OutOfMemory, PartNo};
+use sim_base::{ActorNo, LinkNo, Name, OutOfMemory, PartNo, PortNo};
 use std::alloc::Global;
 use std::marker::Model;
 
@@ -64,6 +64,13 @@ impl Names {
         ensures { result ≡ slice_get self.now.links no.0 }
     {
         self.links.get(no.0 as usize).copied()
+    }
+
+    /// The part of a port and its word there, or None where there is no such number.
+    pub(crate) fn port(&self, no: PortNo) -> Option<PortName>
+        ensures { result ≡ slice_get self.now.ports no.0 }
+    {
+        self.ports.get(no.0 as usize).copied()
     }
 
     /// The name of a part or link, or None where there is no such number.

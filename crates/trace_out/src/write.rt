@@ -1,30 +1,42 @@
-ghost use Rattle.std.specs.Prelude.{◌≡◌, ◌<◌, ◌≤◌, false, is_some, OnOk, OnErr, All};
+ghost use Rattle.std.specs.Prelude.{◌≡◌, ◌<◌, ◌≤◌, is_some, OnOk, OnErr, All};
 ghost use Rattle.sim_io.specs.Sink.{Rose, Got, GotPrefix};
 ghost use Rattle.trace_out.specs.Names.{actors_of};
-ghost use Rattle.trace_out.specs.Lines.{text_of, lines_of};
+ghost use Rattle.trace_out.specs.Lines.{is_out, text_of, lines_of};
 
-use crate::line::out_line;
 use crate::names::Names;
+use crate::record_line::line_of;
 use port_msg::{RecList, Record, What};
 use sim_io::{Sink, SinkFault};
 
-/// Writes the line of a record, unless it has none.
-fn write_record<K: Sink>(rec: &Record, names: &Names, sink: &mut K) -> Result<(), SinkFault>
+/// Whether a record is of a byte that a core wrote.
+fn is_out(what: &What) -> bool
+    ensures { result ≡ is_out what.now }
+{
+    match what {
+        What::Out(_) => true,
+        What::Send(_) | What::Take(_) | What::Move(_) | What::Halt(_) => false,
+    }
+}
+
+/// Writes the line of a record in one write, unless it has none.
+fn write_record<K: Sink>(
+    rec: &Record,
+    names: &Names,
+    all: bool,
+    sink: &mut K,
+) -> Result<(), SinkFault>
     requires known { rec.now.actor.0 < actors_of names.now }
 
-    ensures ok { OnOk result (Got (K.told sink.old) (K.told sink.new) (text_of names.now false rec.now)) }
-    ensures prefix { OnErr result (GotPrefix (K.told sink.old) (K.told sink.new) (text_of names.now false rec.now)) }
+    ensures ok { OnOk result (Got (K.told sink.old) (K.told sink.new) (text_of names.now all rec.now)) }
+    ensures prefix { OnErr result (GotPrefix (K.told sink.old) (K.told sink.new) (text_of names.now all rec.now)) }
     ensures fault { OnErr result (Rose (K.faults sink.old) (K.faults sink.new)) }
     ensures never_falls { K.faults sink.old ≤ K.faults sink.new }
     ensures telling { is_some (K.told sink.new) ≡ is_some (K.told sink.old) }
 {
-    let What::Out(byte) = rec.what else {
+    if !all && !is_out(&rec.what) {
         return Ok(());
-    };
-    let Some(name) = names.actor(rec.actor) else {
-        unreachable!();
-    };
-    sink.write(out_line(rec.at, name, byte).as_slice())
+    }
+    sink.write(line_of(rec, names).as_slice())
 }
 
 /// Writes the lines of these records in order; without `all` only those of bytes that cores wrote.
@@ -35,7 +47,6 @@ pub fn write_records<K: Sink>(
     all: bool,
     sink: &mut K,
 ) -> Result<(), SinkFault>
-    requires out_only { all ≡ false }
     requires known { All (λ r. r.actor.0 < actors_of names.now) recs.now.items }
 
     ensures ok { OnOk result (Got (K.told sink.old) (K.told sink.new) (lines_of names.now all recs.now.items)) }
@@ -45,9 +56,8 @@ pub fn write_records<K: Sink>(
     ensures never_falls { K.faults sink.old ≤ K.faults sink.new }
     ensures telling { is_some (K.told sink.new) ≡ is_some (K.told sink.old) }
 {
-    prove!(!all);
     for record in recs.items() {
-        write_record(record, names, sink)?;
+        write_record(record, names, all, sink)?;
     }
     Ok(())
 }

@@ -1,4 +1,4 @@
-use Rattle.std.proofs.Common.{◌≡◌, ℕ, List, false, ap, refl, subst, sym, ◌∙◌}
+use Rattle.std.proofs.Common.{◌≡◌, ℕ, List, ap, refl, subst}
 use Rattle.std.specs.Prelude.{flat_map}
 use Rattle.sim_io.specs.Sink.{GotPrefix}
 use Rattle.trace_out.specs.Lines.{text_of, lines_of}
@@ -7,8 +7,8 @@ use Rattle.trace_out.proofs.write.write_records.Goals as goal
 
 pub returns-in_err-write_record-clause-prefix : goal.returns-in_err-write_record-clause-prefix
 returns-in_err-write_record-clause-prefix g c =
-    let text = text_of c.args.names.now false in
+    let text = text_of c.args.names.now c.args.all in
     let part = got_part text _ c.loop-record.record-index _ _ _ _ _ _ _ c.loop-record.invariant c.loop-record-test.true refl c.in_err-write_record.ensures.prefix in
     let lines : flat_map text c.items-record-items.result.now ≡ lines_of c.args.names.now c.args.all c.args.recs.now.items =
-    ap (flat_map text) c.items-record-items.ensures ∙ ap (λ all. lines_of c.args.names.now all c.args.recs.now.items) (sym c.requires.out_only) in
+    ap (flat_map text) c.items-record-items.ensures in
     on_err c.from_residual.result (subst (λ (bytes : List ℕ). GotPrefix (g.K.Sink.told c.args.sink.now) (g.K.Sink.told c.write_record.new.sink) bytes) lines part)
