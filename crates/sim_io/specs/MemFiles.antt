@@ -4,15 +4,17 @@ use Rattle.sim_io.specs.declared.mem_files.MemFile.{MemFile}
 use Rattle.sim_io.specs.declared.files.FileFault.{FileFault}
 use Rattle.sim_io.specs.declared.files.FileFault.TheVariants.{Failed, TooLong, OutOfMemory}
 
--- the files, the numbers of the calls that are to fail, how many calls were made, and the names of those that failed
+-- the files, the numbers of the calls that are to fail, how many calls were made, the names of those that failed, and how many
+-- bytes came in the last call
 pub record FilesView : Type 0 where
   pub files : List MemFile
   pub fails : List ℕ
   pub calls : ℕ
   pub failed : List (List ℕ)
+  pub came : ℕ
 
-abbrev pub files_view : List MemFile → List ℕ → ℕ → List (List ℕ) → FilesView
-files_view files fails calls failed = record { files = files; fails = fails; calls = calls; failed = failed }
+abbrev pub files_view : List MemFile → List ℕ → ℕ → List (List ℕ) → ℕ → FilesView
+files_view files fails calls failed came = record { files = files; fails = fails; calls = calls; failed = failed; came = came }
 
 -- the bytes of the first file of this name
 abbrev pub contents_of : List MemFile → List ℕ → Option (List ℕ)

@@ -1,4 +1,4 @@
-ghost use Rattle.std.specs.Prelude.{◌≡◌, ℕ, ◌<◌, ◌≤◌, List, length, Option, IfOk, IfSome, vec_len};
+ghost use Rattle.std.specs.Prelude.{◌≡◌, ℕ, ◌<◌, ◌≤◌, ◌↔◌, List, length, Option, IfOk, IfSome, vec_len};
 ghost use Rattle.sim_io.specs.Sink.{Rose};
 
 use std::alloc::{AllocError, AllocFailed, Global};
@@ -36,17 +36,22 @@ impl<T: Drop> From<AllocFailed<T>> for FileFault {
     }
 }
 
-/// Files by name. For each name it counts its faults, from 0; one count may stand for several names.
+/// Files by name. For each name it counts its faults, from 0; one count may stand for several names. It tells how many bytes came
+/// in its last reading.
 pub trait Files {
     ghost contents: { Self → List ℕ → Option (List ℕ) };
 
     ghost faults: { Self → List ℕ → ℕ };
 
+    ghost came: { Self → ℕ };
+
     /// All bytes of the file of this name. It is too long exactly where it has more than `limit` bytes.
     fn read_file(&mut self, alloc: Global, name: &str, limit: usize) -> Result<Vec<u8>, FileFault>
         ensures all { IfOk result (λ bytes. IfSome (contents self.old name.now) (λ told. bytes.items ≡ told)) }
+        ensures whole { IfOk result (λ bytes. vec_len bytes ≡ came self.new) }
         ensures within { IfOk result (λ bytes. vec_len bytes ≤ limit) }
-        ensures too_long { result ≡ Err FileFault.TooLong → IfSome (contents self.old name.now) (λ told. limit < length told) }
+        ensures too_long { (result ≡ Err FileFault.TooLong) ↔ (limit < came self.new) }
+        ensures told_too_long { result ≡ Err FileFault.TooLong → IfSome (contents self.old name.now) (λ told. limit < length told) }
         ensures failed { result ≡ Err FileFault.Failed → Rose (faults self.old name.now) (faults self.new name.now) }
 
         ensures never_falls { (other : List ℕ) → faults self.old other ≤ faults self.new other }

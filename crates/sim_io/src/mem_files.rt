@@ -20,6 +20,7 @@ pub struct MemFiles {
     fails: Vec<u64>,
     calls: u64,
     failed: Vec<Body>,
+    came: usize,
 }
 
 impl Model for MemFiles {
@@ -27,7 +28,7 @@ impl Model for MemFiles {
 
     ghost Value = { FilesView };
 
-    ghost view = { λ s. files_view s.files.items s.fails.items s.calls s.failed.items };
+    ghost view = { λ s. files_view s.files.items s.fails.items s.calls s.failed.items s.came };
 }
 
 impl MemFiles {
@@ -35,7 +36,7 @@ impl MemFiles {
 
     /// These files, with the numbers of the calls that are to fail. It takes no memory.
     pub fn of(files: Vec<MemFile>, fails: Vec<u64>) -> Self
-        ensures { result ≡ files_view files.items fails.items 0 [] }
+        ensures { result ≡ files_view files.items fails.items 0 [] 0 }
     {
         let failed = Vec::new(*files.allocator());
         MemFiles {
@@ -43,6 +44,7 @@ impl MemFiles {
             fails,
             calls: 0,
             failed,
+            came: 0,
         }
     }
 }
@@ -62,14 +64,16 @@ fn copied(alloc: Global, bytes: &[u8], limit: usize) -> Result<Vec<u8>, FileFaul
 impl MemFiles {
     ghost use Rattle.sim_io.specs.MemFiles.{contents_of, call_after, kept_after};
 
-    /// Counts a call, and answers whether it is to fail.
+    /// Counts a call in which nothing came so far, and answers whether it is to fail.
     fn next_is_listed(&mut self) -> bool
         ensures value { IsTrue result ↔ Contains self.old.fails (call_after self.old.calls) }
         ensures calls { self.new.calls ≡ call_after self.old.calls }
         ensures files { self.new.files ≡ self.old.files }
         ensures fails { self.new.fails ≡ self.old.fails }
         ensures failed { self.new.failed ≡ self.old.failed }
+        ensures came { self.new.came ≡ 0 }
     {
+        self.came = 0;
         self.calls = self.calls.saturating_add(1);
         is_listed(&self.fails, self.calls)
     }
@@ -89,6 +93,7 @@ impl MemFiles {
         ensures files { self.new.files ≡ self.old.files }
         ensures fails { self.new.fails ≡ self.old.fails }
         ensures calls { self.new.calls ≡ self.old.calls }
+        ensures came { self.new.came ≡ self.old.came }
     {
         match keep(&mut self.failed, alloc, name.as_bytes()) {
             Ok(()) => FileFault::Failed,
@@ -119,11 +124,15 @@ impl Files for MemFiles {
 
     ghost faults = { λ s name. failures_of s.failed name };
 
+    ghost came = { λ s. s.came };
+
     /// A call that is listed, or whose name no file has, fails, and its name is kept. Without memory to keep it, it answers that there is none.
     fn read_file(&mut self, alloc: Global, name: &str, limit: usize) -> Result<Vec<u8>, FileFault>
         ensures all { IfOk result (λ bytes. IfSome (contents_of self.old.files name.now) (λ told. bytes.items ≡ told)) }
+        ensures whole { IfOk result (λ bytes. vec_len bytes ≡ self.new.came) }
         ensures within { IfOk result (λ bytes. vec_len bytes ≤ limit) }
-        ensures too_long { result ≡ Err FileFault.TooLong → IfSome (contents_of self.old.files name.now) (λ told. limit < length told) }
+        ensures too_long { (result ≡ Err FileFault.TooLong) ↔ (limit < self.new.came) }
+        ensures told_too_long { result ≡ Err FileFault.TooLong → IfSome (contents_of self.old.files name.now) (λ told. limit < length told) }
         ensures failed { result ≡ Err FileFault.Failed → Rose (failures_of self.old.failed name.now) (failures_of self.new.failed name.now) }
 
         ensures never_falls { (other : List ℕ) → failures_of self.old.failed other ≤ failures_of self.new.failed other }
@@ -140,7 +149,12 @@ impl Files for MemFiles {
             return Err(self.fail(alloc, name));
         }
         match self.bytes_named(name.as_bytes()) {
-            Some(bytes) => copied(alloc, bytes, limit),
+            Some(bytes) => {
+                let came = bytes.len();
+                let copy = copied(alloc, bytes, limit);
+                self.came = came;
+                copy
+            }
             None => Err(self.fail(alloc, name)),
         }
     }
