@@ -1,4 +1,4 @@
-ghost use Rattle.std.specs.Prelude.{◌≡◌, ◌+◌, ◌≤◌, false, is_some, IfOk, IfErr, OnOk};
+ghost use Rattle.std.specs.Prelude.{◌≡◌, ◌+◌, ◌≤◌, is_some, IfOk, IfErr, OnOk};
 ghost use Rattle.sim_io.specs.Sink.{Rose};
 ghost use Rattle.port_rows.specs.World.{state_of};
 ghost use Rattle.tick_law.specs.SerialLoop.{world_at, end_below};
@@ -70,7 +70,6 @@ impl<P: Actor + Drop, N: Actor + Drop, C: Charter<P, N>> Engine<P, N, C> {
         steps: &mut Steps<L>,
     ) -> Result<Verdict, TraceFault>
         requires beginning { self.old.at ≡ C.start.at }
-        requires out_only { all ≡ false }
 
         ensures verdict { IfOk result
             (λ v. v ≡ verdict_at (system_from P.machine N.machine C.plan C.start) C.plan.until) }

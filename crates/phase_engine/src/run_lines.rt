@@ -1,4 +1,4 @@
-ghost use Rattle.std.specs.Prelude.{◌≡◌, ◌+◌, ◌<◌, ◌≤◌, true, false, is_some};
+ghost use Rattle.std.specs.Prelude.{◌≡◌, ◌+◌, ◌<◌, ◌≤◌, true, is_some};
 ghost use Rattle.sim_io.specs.Sink.{Rose};
 ghost use Rattle.tick_law.specs.PlanView.{system_from};
 ghost use Rattle.tick_law.specs.Verdict.{awake_below};
@@ -29,7 +29,6 @@ pub fn run_due<P: Actor + Drop, N: Actor + Drop, C: Charter<P, N>, K: Sink, L: L
     requires parts { blank.parts ≡ M.parts }
     requires some { 0 < blank.parts }
     requires run { IsRun P.machine N.machine P.valid N.valid C.plan C.start run.old }
-    requires out_only { all ≡ false }
 
     ensures run { IsRun P.machine N.machine P.valid N.valid C.plan C.start run.new }
     ensures onward { run.old.at ≤ run.new.at }

@@ -1,5 +1,5 @@
 //! All times of a run, from edge to edge.
-ghost use Rattle.std.specs.Prelude.{◌≡◌, ◌+◌, ◌≤◌, Err, IfErr, IfOk, OnErr, OnOk, false};
+ghost use Rattle.std.specs.Prelude.{◌≡◌, ◌+◌, ◌≤◌, Err, IfErr, IfOk, OnErr, OnOk};
 ghost use Rattle.sim_io.specs.Sink.{Rose};
 ghost use Rattle.tick_law.specs.SerialLoop.{world_at, edges_below};
 ghost use Rattle.tick_law.specs.PlanView.{opening, system_from};
@@ -32,7 +32,6 @@ pub fn run_opened<P: Actor + Drop, N: Actor + Drop, C: Charter<P, N>, K: Sink, L
     requires opened { IsOpened P.machine N.machine P.valid N.valid C.plan opened }
     requires start { C.start ≡ opening C.plan }
     requires at { IsAt P.machine N.machine C.plan C.start 0 opened.world next }
-    requires out_only { all ≡ false }
 
     ensures world { IfOk result (λ e. state_of e.world
         ≡ world_at (system_from P.machine N.machine C.plan C.start) (C.plan.until + 1)) }

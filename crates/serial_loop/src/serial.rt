@@ -1,4 +1,4 @@
-ghost use Rattle.std.specs.Prelude.{◌≡◌, ◌+◌, ◌≤◌, Err, IfOk, OnOk, false};
+ghost use Rattle.std.specs.Prelude.{◌≡◌, ◌+◌, ◌≤◌, Err, IfOk, OnOk};
 ghost use Rattle.tick_law.specs.SerialLoop.{world_at, edges_below};
 ghost use Rattle.tick_law.specs.PlanView.{opening, system_from, system_of};
 ghost use Rattle.tick_law.specs.Verdict.{verdict_at, end_at};
@@ -26,7 +26,6 @@ fn run_of<P: Actor + Drop, N: Actor + Drop, C: Charter<P, N>, K: Sink, L: Ledger
 ) -> Result<Ending<P, N>, RunFault>
     requires plan { plan ≡ C.plan }
     requires start { C.start ≡ opening C.plan }
-    requires out_only { all ≡ false }
 
     ensures world { IfOk result (λ e. state_of e.world
         ≡ world_at (system_from P.machine N.machine C.plan C.start) (C.plan.until + 1)) }
@@ -69,7 +68,6 @@ pub fn run_serial<P: Actor + Drop, N: Actor + Drop, K: Sink, L: Ledger>(
     all: bool,
     steps: &mut Steps<L>,
 ) -> Result<Ending<P, N>, RunFault>
-    requires out_only { all ≡ false }
 
     ensures world { IfOk result
         (λ e. state_of e.world ≡ world_at (system_of P.machine N.machine plan) (plan.until + 1)) }

@@ -45,12 +45,12 @@ impl Stats {
         Ok(Stats { parts: list })
     }
 
-    fn note(&mut self, record: &Record)
-        ensures { self.new ≡ after_record self.old record.now }
+    fn note(&mut self, noted: &Record)
+        ensures { self.new ≡ after_record self.old noted.now }
     {
-        let no = record.actor.0 as usize;
+        let no = noted.actor.0 as usize;
         if no < self.parts.len() {
-            self.parts[no].note(record.at, &record.what);
+            self.parts[no].note(noted.at, &noted.what);
         }
     }
 
