@@ -1,4 +1,4 @@
-ghost use Rattle.std.specs.Prelude.{◌≡◌, ◌+◌, ◌<◌, ◌≤◌, true, is_some};
+ghost use Rattle.std.specs.Prelude.{◌≡◌, ◌+◌, ◌<◌, ◌≤◌, true, false, is_some};
 ghost use Rattle.sim_io.specs.Sink.{Rose};
 ghost use Rattle.tick_law.specs.PlanView.{system_from};
 ghost use Rattle.tick_law.specs.Verdict.{awake_below};
