@@ -2,9 +2,9 @@
 #![tactic(auto)]
 
 mod access;
-mod core;
+mod hart;
 mod phase;
 mod stage;
 
-pub use core::{Core, CoreText};
+pub use hart::{Core, CoreText};
 pub use phase::CorePhase;
