@@ -1,5 +1,5 @@
 use Rattle.std.proofs.Common.{◌∙◌}
-use Rattle.phase_engine.proofs.RunLaws.{rose_later}
+use Rattle.run_gear.proofs.LineLaws.{rose_later}
 use Rattle.top_run.proofs.Telling.{all_written, some_written}
 use Rattle.top_run.proofs.top.run_words.Goals as goal
 
