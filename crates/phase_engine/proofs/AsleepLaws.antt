@@ -6,7 +6,6 @@ use Rattle.std.proofs.lemmas.Nat.{mod-mul-add}
 use Rattle.std.proofs.lemmas.Option.{slice_get_within}
 use Rattle.std.proofs.Math.Nat.{div-add-mod'}
 use Rattle.sim_base.specs.Edge.{edge_from, edge_past}
-use Rattle.sim_base.specs.declared.time.Time.{Time}
 use Rattle.sim_base.specs.declared.time.TheConstants.{LATEST_TICK, LATEST_TIME}
 use Rattle.port_msg.specs.PortView.{PortView}
 use Rattle.port_rows.specs.World.{state_of}
@@ -25,11 +24,11 @@ use Rattle.model_laws.proofs.FacesKept.{or_left, or_right, faces_refl, faces_tra
 use Rattle.model_laws.proofs.StepsFromStart.{state_stays, ports_stay}
 use Rattle.model_laws.proofs.SleepersChangeNothing.{Still}
 use Rattle.model_laws.proofs.OneMoreActor.{is_same}
-use Rattle.model_laws.proofs.AwakeOrQuiet.{At, at_of, stays, rested, mod_between, mod_edge, is_zero, cycle_of, edge_then}
+use Rattle.model_laws.proofs.AwakeOrQuiet.{at_of, stays, rested, mod_between, mod_edge, is_zero, cycle_of, edge_then}
 use Rattle.model_laws.proofs.NextEdge.{next_some}
 use Rattle.model_laws.proofs.NextTimesGoOn.{edge_at}
 use Rattle.model_laws.proofs.BothCourses.{part_is, link_is, world_good}
-use Rattle.model_laws.specs.NextTable.{IsTable, next_at_place}
+use Rattle.model_laws.specs.NextTable.{IsTable}
 use Rattle.model_laws.specs.SideTimes.{half_of}
 use Rattle.model_laws.specs.Fitted.{IsSetUp}
 use Rattle.phase_engine.specs.declared.run.Run.{Run}

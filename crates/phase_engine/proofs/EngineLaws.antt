@@ -1,6 +1,6 @@
 -- What is read from a run of the engine.
-use Rattle.std.proofs.Common.{◌≡◌, ℕ, ◌+◌, ◌<◌, ◌≤◌, ◌||◌, List, length, sym, ◌∙◌, ap, subst, arith, refl, false, true}
-use Rattle.std.specs.Prelude.{Option, Some, None, All}
+use Rattle.std.proofs.Common.{◌≡◌, ℕ, ◌+◌, ◌||◌, List, length, sym, ◌∙◌, ap, subst, arith, refl, false}
+use Rattle.std.specs.Prelude.{Some, None, All}
 use Rattle.port_msg.specs.PortView.{PortView}
 use Rattle.sim_base.specs.declared.time.Time.{Time}
 use Rattle.event_queue.specs.NextTimes.{time_of}
@@ -11,14 +11,13 @@ use Rattle.tick_law.specs.PlanView.{PlanView, system_from}
 use Rattle.tick_law.specs.SerialLoop.{Start, WorldState, world_at, whole_world}
 use Rattle.tick_law.specs.WorldPlaces.{WorldPlaces, alls, somes}
 use Rattle.tick_law.specs.Verdict.{all_done, exists_to, verdict_by, verdict_at}
-use Rattle.tick_law.specs.declared.verdict.Verdict.{Verdict}
 use Rattle.tick_law.specs.declared.verdict.Verdict.TheVariants.{Cut}
 use Rattle.model_laws.proofs.PortsPutBack.{somes-alls}
 use Rattle.model_laws.specs.NextTable.{next_at_place}
 use Rattle.model_laws.specs.SideTimes.{half_of}
 use Rattle.run_gear.proofs.Boundaries.{verdict_is}
 use Rattle.phase_engine.specs.declared.run.Run.{Run}
-use Rattle.phase_engine.specs.RunGear.{IsRunGear, IsAt, places_of}
+use Rattle.phase_engine.specs.RunGear.{IsAt, places_of}
 use Rattle.phase_engine.specs.Run.{IsRun}
 use Rattle.phase_engine.proofs.TimesLaws.{both_none, either_some, verdict_halves}
 

@@ -1,18 +1,16 @@
 -- The gear of a run at one time.
-use Rattle.std.proofs.Common.{◌≡◌, ℕ, ◌+◌, ◌*◌, ◌≤◌, List, length, sym, ◌∙◌, ap, subst, arith}
+use Rattle.std.proofs.Common.{◌≡◌, ℕ, ◌+◌, ◌*◌, ◌≤◌, List, length, sym, ◌∙◌, ap, subst}
 use Rattle.std.specs.Prelude.{Option}
 use Rattle.sim_base.specs.declared.time.Time.{Time}
 use Rattle.tick_law.specs.Machine.{Machine}
-use Rattle.tick_law.specs.Wires.{Wires}
 use Rattle.tick_law.specs.PlanView.{PlanView, part_wires, link_wires, system_from}
-use Rattle.tick_law.specs.SerialLoop.{Start, System}
+use Rattle.tick_law.specs.SerialLoop.{Start}
 use Rattle.model_laws.specs.WellFormed.{system}
 use Rattle.model_laws.specs.Outcome.{own_to}
 use Rattle.model_laws.specs.Fitted.{Fitted}
 use Rattle.model_laws.specs.Boundary.{IsBoundary}
 use Rattle.model_laws.specs.SideTimes.{half_of}
 use Rattle.port_rows.specs.declared.world.World.{World}
-use Rattle.port_rows.specs.Rows.{RowsView}
 use Rattle.actor_turn.specs.Side.{AreInOrder, times_of}
 use Rattle.actor_turn.specs.Act.{whole}
 use Rattle.due_pass.specs.Time.{run_of}

@@ -23,7 +23,6 @@ use Rattle.run_gear.specs.declared.gear.Gear.{Gear}
 use Rattle.run_gear.proofs.Boundaries.{boundary_start}
 use Rattle.phase_engine.specs.RunGear.{IsRunGear, IsAt, places_of}
 use Rattle.phase_engine.proofs.TimesLaws.{half_first}
-use Rattle.phase_engine.proofs.GearLaws.{kept}
 
 module _ {P N : Type 0} where
   fresh_places : (plan : PlanView P N) (w : World P N) → IsFreshWorld plan.parts plan.links (start_of plan).ports (link_wires plan) w → places_of w ≡ whole_world (start_of plan)

@@ -20,7 +20,8 @@ pub fn one_time<P: Actor + Drop, N: Actor + Drop, C: Charter<P, N>, L: Ledger, M
     steps: &mut Steps<L>,
     looks: &mut Steps<M>,
 ) -> bool
-    requires gear { IsRunGear P.machine N.machine P.valid N.valid C.plan C.start world.old gear.old }
+    requires gear { IsRunGear P.machine N.machine P.valid N.valid C.plan C.start
+        world.old gear.old }
     requires at { IsAt P.machine N.machine C.plan C.start t world.old gear.old.next }
     requires due { IsDueBy gear.old.next t }
     requires time { t ≤ LATEST_TIME }

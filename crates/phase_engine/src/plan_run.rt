@@ -1,4 +1,4 @@
-ghost use Rattle.std.specs.Prelude.{◌≡◌, ◌≢◌, ◌+◌, ◌≤◌, Err, IfOk, OnOk};
+ghost use Rattle.std.specs.Prelude.{◌≡◌, ◌+◌, ◌≤◌, Err, IfOk, OnOk};
 ghost use Rattle.port_rows.specs.World.{state_of};
 ghost use Rattle.tick_law.specs.SerialLoop.{world_at};
 ghost use Rattle.tick_law.specs.PlanView.{opening, system_from, system_of};

@@ -1,7 +1,6 @@
 -- One actor more in a pass over everybody.
-use Rattle.std.proofs.Common.{◌≡◌, ℕ, ◌+◌, ◌/◌, ◌<◌, ◌≤◌, List, [], ◌++◌, length, suc, sym, ◌∙◌, ap, subst, refl, arith, append-nil, add-one}
-use Rattle.std.specs.Prelude.{Option, Some, Bool, false, ◌||◌, slice_get, slice_set}
-use Rattle.port_row.specs.Row.{PortsView}
+use Rattle.std.proofs.Common.{◌≡◌, ℕ, ◌+◌, ◌/◌, ◌<◌, List, ◌++◌, length, suc, sym, ◌∙◌, ap, subst, refl, arith, append-nil, add-one}
+use Rattle.std.specs.Prelude.{Option, Bool, false, ◌||◌, slice_get, slice_set}
 use Rattle.tick_law.specs.Machine.{Machine}
 use Rattle.tick_law.specs.WorldPlaces.{alls}
 use Rattle.tick_law.specs.Wires.{own_of, Wired}
@@ -17,7 +16,6 @@ use Rattle.model_laws.proofs.TurnByTurn.{room_left}
 use Rattle.model_laws.specs.NextTable.{next_at_place}
 use Rattle.model_laws.specs.Stepping.{Everyone}
 use Rattle.model_laws.proofs.NextTimesNoted.{Noted, noted_more}
-use Rattle.port_rows.specs.Opening.{AreLong}
 use Rattle.actor_turn.specs.declared.side.SideGear.{SideGear}
 use Rattle.actor_turn.specs.Next.{next_seat_of}
 use Rattle.actor_turn.specs.Act.{ActState, CanAct, HasActed, side_acting, places_acting}

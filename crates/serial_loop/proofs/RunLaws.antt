@@ -1,5 +1,5 @@
 -- A run's first boundary, how it goes on from one time to the next, and what is read from its last boundary.
-use Rattle.std.proofs.Common.{◌≡◌, ℕ, ◌+◌, List, ◌++◌, length, replicate, sym, ◌∙◌, ap, add-one}
+use Rattle.std.proofs.Common.{◌≡◌, ℕ, ◌+◌, List, length, replicate, sym, ◌∙◌, ap, add-one}
 use Rattle.std.specs.Prelude.{Option, Some, Bool, ◌||◌}
 use Rattle.port_msg.specs.PortView.{PortView}
 use Rattle.sim_io.specs.Sink.{Got, GotPrefix}

@@ -38,7 +38,7 @@ use Rattle.actor_turn.specs.Side.{edge_of, AreInOrder}
 use Rattle.actor_turn.specs.Waking.{shows_other}
 use Rattle.actor_turn.specs.declared.side.SideGear.{SideGear}
 use Rattle.actor_turn.proofs.TurnLaws.{differs_so}
-use Rattle.actor_turn.proofs.WithinLaws.{states_long, ports_long}
+use Rattle.actor_turn.proofs.WithinLaws.{ports_long}
 use Rattle.run_gear.specs.declared.gear.Gear.{Gear}
 use Rattle.run_gear.specs.IsGear.{IsGear}
 use Rattle.run_gear.proofs.Boundaries.{system_wired}

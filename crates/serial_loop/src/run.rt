@@ -8,7 +8,6 @@ ghost use Rattle.port_rows.specs.World.{state_of};
 ghost use Rattle.run_gear.specs.IsOpened.{IsOpened};
 ghost use Rattle.run_gear.specs.Written.{GotLines, GotSomeLines};
 ghost use Rattle.serial_loop.specs.IsAt.{IsAt};
-ghost use Rattle.run_gear.specs.IsGear.{IsGear};
 
 use crate::edges::next_edge;
 use crate::table::NextTables;

@@ -8,8 +8,9 @@ use tick_law::{Actor, Verdict};
 
 /// The verdict, by the next times that are left and the parts that are done.
 pub fn verdict_of<P: Actor>(parts: &[P], next: &NextTables) -> Verdict
-    ensures { result
-        ≡ verdict_by (has_next next.now.parts || has_next next.now.links) (all_done P.machine parts.now) }
+    ensures { result ≡ verdict_by
+        (has_next next.now.parts || has_next next.now.links)
+        (all_done P.machine parts.now) }
 {
     if next.parts.any() || next.links.any() {
         Verdict::Cut

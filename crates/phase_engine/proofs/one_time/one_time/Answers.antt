@@ -1,4 +1,4 @@
-use Rattle.std.proofs.Common.{◌≡◌, ◌+◌, ap, ◌∙◌, arith}
+use Rattle.std.proofs.Common.{◌+◌, ap, ◌∙◌}
 use Rattle.tick_law.specs.Verdict.{awake_now}
 use Rattle.phase_engine.proofs.GearLaws.{same_run}
 use Rattle.phase_engine.proofs.one_time.one_time.Goals as goal

@@ -1,4 +1,4 @@
-use Rattle.std.proofs.Common.{◌≡◌, ◌+◌, length, ap, subst, sym, ◌∙◌, arith}
+use Rattle.std.proofs.Common.{◌+◌, length, ap, subst, sym, ◌∙◌, arith}
 use Rattle.tick_law.specs.PlanView.{PlanView}
 use Rattle.tick_law.specs.SerialLoop.{Start}
 use Rattle.run_gear.specs.IsOpened.{IsOpened}

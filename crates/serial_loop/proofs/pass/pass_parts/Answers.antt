@@ -1,9 +1,7 @@
-use Rattle.std.proofs.Common.{◌≡◌, ◌<◌, List, [], get_or, length, refl, sym, ◌∙◌, ap, subst, arith}
+use Rattle.std.proofs.Common.{length, refl, sym, ◌∙◌, ap, subst, arith}
 use Rattle.std.specs.Prelude.{slice_get, slice_set}
 use Rattle.std.proofs.lemmas.List.{set-get_or}
 use Rattle.tick_law.specs.Laws.{Lawful}
-use Rattle.tick_law.specs.Wires.{own_of}
-use Rattle.port_row.specs.Row.{PortsView}
 use Rattle.model_laws.specs.NextTable.{next_at_place}
 use Rattle.actor_turn.specs.Next.{next_seat_of}
 use Rattle.actor_turn.specs.declared.side.SideGear.{SideGear}

@@ -1,20 +1,14 @@
-use Rattle.std.proofs.Common.{◌≡◌, ◌+◌, ◌++◌, length, map, sym, ◌∙◌, ap, subst, refl, rules}
-use Rattle.std.specs.Prelude.{◌||◌}
+use Rattle.std.proofs.Common.{length, map, sym, ◌∙◌, ap, subst, refl}
 use Rattle.port_msg.specs.RecView.{RecView}
-use Rattle.tick_law.specs.PlanView.{part_wires, link_wires, system_from}
-use Rattle.tick_law.specs.SerialLoop.{System, records_at_time, stirs_at, edges_at}
-use Rattle.model_laws.specs.Boundary.{IsBoundary}
-use Rattle.model_laws.specs.Fitted.{Fitted}
+use Rattle.tick_law.specs.PlanView.{part_wires, system_from}
 use Rattle.port_row.specs.Row.{face_of}
 use Rattle.port_rows.specs.Rows.{RowsView}
 use Rattle.port_rows.specs.Opening.{AreLong}
-use Rattle.actor_turn.specs.Act.{whole, parts_acting, links_acting}
+use Rattle.actor_turn.specs.Act.{parts_acting, links_acting}
 use Rattle.actor_turn.specs.declared.side.SideGear.{SideGear}
 use Rattle.run_gear.specs.declared.gear.Gear.{Gear}
-use Rattle.run_gear.proofs.Boundaries.{system_wired}
 use Rattle.serial_loop.specs.Pass.{CanPass, HasPassed}
-use Rattle.serial_loop.specs.IsAt.{IsAt}
-use Rattle.serial_loop.proofs.TimeLaws.{CanTick, PartsTicked, LinksTicked, IsTicked, CanBegin, CanBeWoken, can_tick, can_be_woken, parts_begin, links_begin, then_settled, with_rows, time_ticked, run_ticked, is_gear_still}
+use Rattle.serial_loop.proofs.TimeLaws.{PartsTicked, IsTicked, CanBegin, CanBeWoken, can_tick, can_be_woken, parts_begin, links_begin, then_settled, with_rows, run_ticked, is_gear_still}
 use Rattle.serial_loop.proofs.time.tick_time.Given.{Over}
 use Rattle.serial_loop.proofs.time.tick_time.Goals as goal
 use Rattle.serial_loop.proofs.time.tick_time.Goals.{After-clear, After-wake_changed-arg-3-1, After-wake_changed, After-wake_changed-arg-6-1, After-wake_changed-2}

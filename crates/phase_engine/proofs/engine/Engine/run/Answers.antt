@@ -1,5 +1,4 @@
 use Rattle.std.proofs.Common.{◌≡◌, ◌+◌, ap, subst, ◌∙◌, true, false}
-use Rattle.std.specs.Prelude.{Bool}
 use Rattle.sim_io.specs.Sink.{Got, GotPrefix}
 use Rattle.tick_law.specs.SerialLoop.{records_below}
 use Rattle.tick_law.specs.PlanView.{system_from}
