@@ -2,9 +2,9 @@
 #![tactic(auto)]
 
 mod access;
-mod hart;
+mod core;
 mod phase;
 mod stage;
 
-pub use hart::{Core, CoreText};
+pub use core::{Core, CoreText};
 pub use phase::CorePhase;
