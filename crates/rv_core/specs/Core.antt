@@ -28,7 +28,7 @@ use Rattle.rv_core.specs.declared.phase.CorePhase.{CorePhase}
 use Rattle.rv_core.specs.declared.phase.CorePhase.TheVariants.{Fetch as InFetch, WaitInst as InWaitInst, Mem as InMem, WaitData as InWaitData, Flush as InFlush, WaitFlush as InWaitFlush, Halted as InHalted}
 use Rattle.rv_core.specs.declared.stage.Stage.{Stage}
 use Rattle.rv_core.specs.declared.stage.Stage.TheVariants.{Fetch, WaitInst, Mem, WaitData, Flush, WaitFlush, Halted}
-use Rattle.rv_core.specs.declared.core.CoreText.{CoreText}
+use Rattle.rv_core.specs.declared.core_part.CoreText.{CoreText}
 
 pub record CoreState : Type 0 where
   pub part : PartNo

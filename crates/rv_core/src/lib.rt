@@ -2,9 +2,9 @@
 #![tactic(auto)]
 
 mod access;
-mod core;
+mod core_part;
 mod phase;
 mod stage;
 
-pub use core::{Core, CoreText};
+pub use core_part::{Core, CoreText};
 pub use phase::CorePhase;

@@ -2,7 +2,7 @@ use Rattle.std.specs.Prelude.{List, All, AllPairs}
 use Rattle.std.proofs.Common.{subst, sym}
 use Rattle.addr_map.specs.Range.{IsRange, Apart}
 use Rattle.addr_map.specs.declared.range.Range.{Range}
-use Rattle.rv_core.proofs.core.Core.open.Goals as goal
+use Rattle.rv_core.proofs.core_part.Core.open.Goals as goal
 
 pub open-requires-clause-apart : goal.open-requires-clause-apart
 open-requires-clause-apart c = subst (λ (ranges : List Range). AllPairs Apart ranges) (sym c.items.ensures) c.requires.inst_apart

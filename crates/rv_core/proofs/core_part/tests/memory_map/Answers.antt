@@ -2,7 +2,7 @@
 use Rattle.std.proofs.Common.{[], refl, lit≤}
 use Rattle.std.proofs.lemmas.List.Elements.{All-cons, All-nil}
 use Rattle.addr_map.specs.Range.{IsRange}
-use Rattle.rv_core.proofs.core.tests.memory_map.Goals as goal
+use Rattle.rv_core.proofs.core_part.tests.memory_map.Goals as goal
 
 pub returns-clause-shape : goal.returns-clause-shape
 returns-clause-shape c =
