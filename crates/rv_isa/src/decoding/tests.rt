@@ -124,3 +124,13 @@ fn words_of_other_instruction_sets_are_illegal(rt: HostRuntime) {
         assert_eq!(rt; decode(word), Err(Illegal { word }));
     }
 }
+
+#[test]
+fn an_instruction_and_a_refusal_have_their_texts(rt: HostRuntime) {
+    let illegal = Illegal { word: 0x4501 };
+    let text = format!(in rt.alloc(); "{}: {illegal}", Op::Sltiu).expect(&rt, "memory");
+    assert_eq!(rt;
+        text.as_str(),
+        "sltiu: 0x00004501 is no instruction of RV32I"
+    );
+}
