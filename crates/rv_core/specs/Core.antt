@@ -1,5 +1,5 @@
 -- A core: what its state is, and what it does in a step.
-use Rattle.std.specs.Prelude.{◌≡◌, ℕ, ◌+◌, ◌-◌, ◌*◌, ◌%◌, ◌^◌, ◌<◌, ◌≤◌, ◌==◌, ◌++◌, List, [], ◌∷◌, length, drop, min, Option, Some, None, Bool, true, false, cond, nat_lt, slice_get, slice_set, replicate}
+use Rattle.std.specs.Prelude.{ℕ, ◌+◌, ◌-◌, ◌%◌, ◌^◌, ◌<◌, ◌≤◌, ◌==◌, ◌++◌, List, [], ◌∷◌, length, drop, min, Option, Some, None, Bool, true, false, nat_lt, slice_get, slice_set, replicate}
 use Rattle.std.specs.Int.{w32, to_le_bytes, from_le_bytes}
 use Rattle.port_msg.specs.PortView.{PortView}
 use Rattle.port_row.specs.Row.{PortsView}

@@ -1,5 +1,5 @@
 -- What each step of a core keeps, and the quiet law.
-use Rattle.std.specs.Prelude.{◌≡◌, ℕ, ◌+◌, ◌*◌, ◌%◌, ◌==◌, ◌<◌, ◌≤◌, List, [], ◌∷◌, length, Option, Some, None, Bool, true, false, nat_lt, slice_get, slice_set, refl}
+use Rattle.std.specs.Prelude.{◌≡◌, ℕ, ◌+◌, ◌*◌, ◌%◌, ◌==◌, ◌<◌, ◌≤◌, List, [], ◌∷◌, length, Option, Some, None, Bool, true, false, nat_lt, slice_get, refl}
 use Rattle.std.specs.Int.{w32, from_le_bytes}
 use Rattle.std.proofs.Common.{sym, ◌∙◌, ap, subst, arith}
 use Rattle.std.proofs.lemmas.Bool.Decides.{nat_tests}
@@ -18,15 +18,14 @@ use Rattle.tick_law.specs.Frame.{AllPorts, Frames, Framed}
 use Rattle.tick_law.specs.Face.{SameFaces}
 use Rattle.tick_law.specs.Quiet.{Quiet, IsBelow}
 use Rattle.tick_law.specs.FrameLaws.{port_same}
-use Rattle.tick_law.specs.OnePort.{Act, nothing, act_where, head_of, has_room}
+use Rattle.tick_law.specs.OnePort.{Act, nothing, head_of, has_room}
 use Rattle.tick_law.specs.OnePortLaws.{Kept, kept_nothing, kept_where, where_failed, where_false, taken_framed, taken_ok, sent_framed, sent_ok}
-use Rattle.tick_law.specs.Pass.{port_at}
 use Rattle.rv_core.specs.declared.access.Access.{Access}
 use Rattle.rv_core.specs.declared.access.Deed.{Deed}
 use Rattle.rv_core.specs.declared.access.Deed.TheVariants.{Load, Store}
 use Rattle.rv_core.specs.declared.stage.Stage.{Stage}
 use Rattle.rv_core.specs.declared.stage.Stage.TheVariants.{Fetch, WaitInst, Mem, WaitData, Flush, WaitFlush, Halted}
-use Rattle.rv_core.specs.Core.{CoreState, Change, IsCore, IsStage, IsAccess, became, halt, acted, took, sent, send, fetch_to, fetch_where, fetch, access_to, access_where, begin_access, flush_where, flush_from, other_call, call_where, call, obey, obey_if, run, is_read_answer, is_flush_answer, is_answer, read_request, access_request, flush_request, taking, take_inst, send_access, end_access, take_answer, flush_to, send_flush, take_flushed, at_place, step_in, core}
+use Rattle.rv_core.specs.Core.{CoreState, Change, IsCore, IsStage, IsAccess, became, halt, acted, took, sent, send, fetch_to, fetch_where, fetch, access_to, access_where, flush_where, flush_from, other_call, call_where, obey, obey_if, run, is_read_answer, is_flush_answer, is_answer, read_request, access_request, flush_request, taking, take_inst, send_access, end_access, take_answer, flush_to, send_flush, take_flushed, at_place, step_in, core}
 
 -- the period stays, and a state that a core can be in leads to one
 record Stays (s t : CoreState) : Type 0 where

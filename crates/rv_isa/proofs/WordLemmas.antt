@@ -1,15 +1,14 @@
 -- The instruction that is found for a word, and its effect.
-use Rattle.std.proofs.Common.{◌≡◌, ℕ, zero, suc, Bool, true, false, cond, ◌==◌, ◌&&◌, IsTrue, List, [], ◌∷◌, Option, Some, None, slice_get, refl, sym, ◌∙◌, ap, subst, arith}
+use Rattle.std.proofs.Common.{◌≡◌, ℕ, zero, suc, Bool, true, false, cond, ◌==◌, ◌&&◌, IsTrue, List, [], ◌∷◌, Some, None, slice_get, refl, sym, ◌∙◌, ap, subst, arith}
 use Rattle.std.proofs.lemmas.Bool.Decides.{nat_tests}
 use Rattle.rv_isa.specs.declared.op.Op.{Op}
 use Rattle.rv_isa.specs.declared.inst.Inst.{Inst}
 use Rattle.rv_isa.specs.declared.row.Row.{Row}
-use Rattle.rv_isa.specs.Bits.{field}
 use Rattle.rv_isa.specs.Effect.{effect, effect_of, effect_by, effect_if, word_effect}
 use Rattle.rv_isa.specs.Format.{rd_of, rs1_of, rs2_of, immediate_of}
 use Rattle.rv_isa.specs.Inst.{Spells}
 use Rattle.rv_isa.specs.Regs.{register}
-use Rattle.rv_isa.specs.Table.{row_of, format_of, has_funct3, has_funct7, has_funct12, IsOfRow, ops, fits_where, fits, first_of, op_of}
+use Rattle.rv_isa.specs.Table.{row_of, format_of, IsOfRow, ops, fits_where, fits, first_of, op_of}
 use Rattle.rv_isa.proofs.TableLemmas.{IsOfRow-one, placed}
 
 where_true : (b c : Bool) → (IsTrue b → c ≡ true) → fits_where b c ≡ true

@@ -5,9 +5,8 @@ use Rattle.rv_isa.specs.declared.op.Op.{Op}
 use Rattle.rv_isa.specs.declared.op.Op.TheVariants.{Lui, Auipc, Jal, Jalr, Beq, Bne, Blt, Bge, Bltu, Bgeu, Lb, Lh, Lw, Lbu, Lhu, Sb, Sh, Sw, Addi, Slti, Sltiu, Xori, Ori, Andi, Slli, Srli, Srai, Add, Sub, Sll, Slt, Sltu, Xor, Srl, Sra, Or, And, Fence, Ecall, Ebreak}
 use Rattle.rv_isa.specs.declared.effect.Effect.{Effect}
 use Rattle.rv_isa.specs.Bits.{field}
-use Rattle.rv_isa.specs.Effect.{effect, jump, branch, write, store, effect_by, effect_if, word_effect, NamesRegister, HasWidth}
-use Rattle.rv_isa.specs.Format.{has_rd, rd_of}
-use Rattle.rv_isa.specs.Regs.{register}
+use Rattle.rv_isa.specs.Effect.{effect, jump, branch, effect_by, effect_if, word_effect, NamesRegister, HasWidth}
+use Rattle.rv_isa.specs.Format.{has_rd}
 use Rattle.rv_isa.specs.Table.{format_of, op_of}
 
 -- what every effect keeps
