@@ -141,7 +141,8 @@ impl Ports {
         ensures rest { self.new ≡ record self.old { ports = out_taken self.old.ports k } }
     {
         let head = self.ports[k].out_take();
-        self.outs.put(k, self.ports[k].out_head().is_some());
+        let more = self.ports[k].out_head().is_some();
+        self.outs.put(k, more);
         self.touched.insert(k);
         head
     }
