@@ -4,6 +4,8 @@
 mod opening;
 mod rows;
 mod side;
+#[cfg(test)]
+mod tests;
 mod world;
 
 pub use opening::hollow_rows;
