@@ -1,5 +1,5 @@
 ghost use Rattle.std.specs.Prelude.{◌≡◌, ◌↔◌, IsNone, IfNone, IfSome, IfOk, All, AllPairs, Contains, length};
-ghost use Rattle.addr_map.specs.Range.{IsRange, Apart, Holds, target_of, target_at};
+ghost use Rattle.addr_map.specs.Range.{IsRange, Apart, Holds, target_of, target_at, range_of};
 ghost use Rattle.addr_map.specs.Start.{AreStarts, IsSortedStarts, IsRising, AreBelow, IsMap};
 
 use crate::range::Range;
