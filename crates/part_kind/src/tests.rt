@@ -1,4 +1,5 @@
 ghost use Rattle.std.specs.Prelude.{◌≡◌, ◌*◌, ◌<◌, ◌≤◌, [], ◌∷◌, length, IfOk};
+ghost use Rattle.addr_map.specs.Range.{range_of};
 
 use addr_map::{Range, Ranges, Targets};
 use mem_ctrl::{Memory, MemoryText};
