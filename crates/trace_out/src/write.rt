@@ -18,7 +18,7 @@ fn is_out(what: &What) -> bool
     }
 }
 
-/// Writes the line of a record in one write, unless it has none.
+/// Writes the line of a record, unless it has none.
 fn write_record<K: Sink>(
     rec: &Record,
     names: &Names,
