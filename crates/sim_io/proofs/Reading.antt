@@ -1,5 +1,5 @@
 -- What a reader gave so far, and what it has left.
-use Rattle.std.proofs.Common.{◌≡◌, ℕ, List, [], ◌∷◌, ◌++◌, Option, Some, None, append_assoc, ap, sym, ◌∙◌, refl, subst}
+use Rattle.std.proofs.Common.{◌≡◌, ℕ, List, [], ◌++◌, Option, Some, None, append_assoc, refl}
 use Rattle.std.specs.Io.KnownBytes.{Consumes}
 
 -- the reader gave these bytes

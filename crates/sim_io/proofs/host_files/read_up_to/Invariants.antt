@@ -1,5 +1,4 @@
-use Rattle.std.proofs.Common.{◌≡◌, ℕ, ◌+◌, ◌≤◌, List, length}
-use Rattle.std.specs.Prelude.{vec_len}
+use Rattle.std.proofs.Common.{◌+◌, ◌≤◌, length}
 use Rattle.sim_io.proofs.Reading.{HasRead}
 use Rattle.sim_io.proofs.host_files.read_up_to.Given as goal
 
