@@ -47,14 +47,14 @@ loop-t-init g c =
       falls = omega arith;
     }
 
-pub write_records-requires-clause-known : goal.write_records-requires-clause-known
-write_records-requires-clause-known g c =
+pub write_records-requires : goal.write_records-requires
+write_records-requires g c =
     let r = system_from g.P.Actor.machine g.N.Actor.machine g.C.Charter.plan g.C.Charter.start in
     let t = c.loop-t.t in
     let q = c.requires.opened in
     let count : actors_of c.args.opened.names ≡ length g.C.Charter.start.world.parts + length g.C.Charter.start.world.links = q.actors_named ∙ sym (ap (λ s. length s.world.parts + length s.world.links) c.requires.start) in
-    subst (λ l. All (λ (x : Record). x.actor.0 < actors_of c.args.opened.names) l) (sym c.tick_time-stirred.ensures.records)
-    (known_actors r g.P.Actor.valid g.N.Actor.valid t (actors_of c.args.opened.names) c.loop-t.invariant.gear.fitted.set_up (omega (arith, c.loop-t-test.true, q.until_is, q.until_within)) count)
+    record { known = subst (λ l. All (λ (x : Record). x.actor.0 < actors_of c.args.opened.names) l) (sym c.tick_time-stirred.ensures.records)
+        (known_actors r g.P.Actor.valid g.N.Actor.valid t (actors_of c.args.opened.names) c.loop-t.invariant.gear.fitted.set_up (omega (arith, c.loop-t-test.true, q.until_is, q.until_within)) count) }
 
 pub returns-in-Err-clause-prefix : goal.returns-in-Err-clause-prefix
 returns-in-Err-clause-prefix g c =
