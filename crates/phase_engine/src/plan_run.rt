@@ -70,7 +70,6 @@ pub fn run_plan<P: Actor + Drop, N: Actor + Drop, K: Sink, L: Ledger>(
     all: bool,
     steps: &mut Steps<L>,
 ) -> Result<Ending<P, N>, RunFault>
-
     ensures world { IfOk result
         (λ e. state_of e.world ≡ world_at (system_of P.machine N.machine plan) (plan.until + 1)) }
     ensures verdict { IfOk result

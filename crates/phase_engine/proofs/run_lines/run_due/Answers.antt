@@ -50,8 +50,10 @@ write_records-requires g c =
     let t = c.loop-t.t in
     let inv = c.loop-t.invariant in
     let named = inv.of.actors_named in
-    record { known = subst (λ l. All (λ (x : Record). x.actor.0 < actors_of c.loop-t.run.names) l) (sym c.one_time-stirred.ensures.records)
-        (known_actors r g.P.Actor.valid g.N.Actor.valid t (actors_of c.loop-t.run.names) inv.gear.fitted.set_up (let u = inv.of.until_within in omega (arith, c.loop-t-test.true, inv.bound, u)) named) }
+    record {
+      known = subst (λ l. All (λ (x : Record). x.actor.0 < actors_of c.loop-t.run.names) l) (sym c.one_time-stirred.ensures.records)
+          (known_actors r g.P.Actor.valid g.N.Actor.valid t (actors_of c.loop-t.run.names) inv.gear.fitted.set_up (let u = inv.of.until_within in omega (arith, c.loop-t-test.true, inv.bound, u)) named);
+    }
 
 pub returns-in-Err-clause-fault : goal.returns-in-Err-clause-fault
 returns-in-Err-clause-fault g c = λ failed. rose_later (g.K.Sink.faults c.args.sink.now) (g.K.Sink.faults c.loop-t.sink) (g.K.Sink.faults c.write_records.new.sink) c.loop-t.invariant.falls c.in-Err.ensures.fault

@@ -53,8 +53,10 @@ write_records-requires g c =
     let t = c.loop-t.t in
     let q = c.requires.opened in
     let count : actors_of c.args.opened.names ≡ length g.C.Charter.start.world.parts + length g.C.Charter.start.world.links = q.actors_named ∙ sym (ap (λ s. length s.world.parts + length s.world.links) c.requires.start) in
-    record { known = subst (λ l. All (λ (x : Record). x.actor.0 < actors_of c.args.opened.names) l) (sym c.tick_time-stirred.ensures.records)
-        (known_actors r g.P.Actor.valid g.N.Actor.valid t (actors_of c.args.opened.names) c.loop-t.invariant.gear.fitted.set_up (omega (arith, c.loop-t-test.true, q.until_is, q.until_within)) count) }
+    record {
+      known = subst (λ l. All (λ (x : Record). x.actor.0 < actors_of c.args.opened.names) l) (sym c.tick_time-stirred.ensures.records)
+          (known_actors r g.P.Actor.valid g.N.Actor.valid t (actors_of c.args.opened.names) c.loop-t.invariant.gear.fitted.set_up (omega (arith, c.loop-t-test.true, q.until_is, q.until_within)) count);
+    }
 
 pub returns-in-Err-clause-prefix : goal.returns-in-Err-clause-prefix
 returns-in-Err-clause-prefix g c =
