@@ -1,5 +1,5 @@
-//! The program on its host: its words, standard output and standard error are handed to one call, and it ends with the status
-//! that this call answers.
+//! The program on its host: its words, files, standard output and standard error are handed to one call, and it ends with the
+//! status that this call answers.
 #![tactic(auto)]
 
 mod host;

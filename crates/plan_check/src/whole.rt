@@ -1,4 +1,4 @@
-ghost use Rattle.std.specs.Prelude.{◌≡◌, ℕ, length, Some, None, IfOk, OnOk, IsErrOf};
+ghost use Rattle.std.specs.Prelude.{◌≡◌, ℕ, Some, None, IfOk, OnOk, IsErrOf};
 ghost use Rattle.sim_config.specs.declared.fault.TableNo.{TableNo};
 ghost use Rattle.plan_rules.specs.declared.rule.PlanRule.{PlanRule};
 ghost use Rattle.plan_rules.specs.First.{first_broken};
@@ -43,14 +43,12 @@ fn plan_of(alloc: Global, numbered: &Numbered) -> Result<Plan<Part, LinkKind>, O
 }
 
 /// The plan that a configuration means, or the first rule of plans that it breaks. `images` has the program of each program
-/// table in order. No core exists yet, so none is placed, and `Unmapped` never comes.
+/// table in order. No core exists yet, so that each program breaks a rule: no image is looked at, and `Unmapped` never comes.
 pub fn build(
     alloc: Global,
     text: &PlanText,
     images: &[Image],
 ) -> Result<Plan<Part, LinkKind>, PlanFault>
-    requires { length images.now ≡ length text.now.programs }
-
     ensures plan { IfOk result (λ plan. plan ≡ plan_of text.now) }
 
     // A plan comes exactly where no rule is broken, and else the first broken rule with its first table.

@@ -1,4 +1,7 @@
-pub mod Refusals
+pub mod WordRefusals
+pub mod CommandRefusals
+pub mod Jobs
+pub mod Causes
 pub mod Shown
 pub mod Telling
 pub mod Spelling

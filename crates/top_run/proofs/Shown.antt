@@ -1,34 +1,32 @@
--- What the report of a ring needs of its world.
-use Rattle.std.proofs.Common.{◌≡◌, ℕ, zero, suc, List, [], ◌∷◌, length, map, refl, sym, ◌∙◌, ap, codes}
+-- What the report of a plan needs of its world.
+use Rattle.std.proofs.Common.{◌≡◌, ℕ, zero, suc, List, length, refl, sym, ◌∙◌, ap}
 use Rattle.tick_law.specs.SerialLoop.{System, WorldState, world_at}
+use Rattle.tick_law.specs.PlanView.{PlanView}
 use Rattle.tick_law.specs.declared.verdict.Verdict.{Verdict}
 use Rattle.state_view.specs.Report.{report_of}
 use Rattle.model_laws.proofs.OneMoreActor.{length-map_index}
-use Rattle.ring_plan.specs.Ring.{up_to, relay_name, ring_system}
 use Rattle.part_kind.specs.declared.part.Part.{Part}
 use Rattle.part_kind.specs.declared.link_kind.LinkKind.{LinkKind}
+use Rattle.top_run.specs.Top.{loop_of}
 
 -- no part and no link comes or goes
-pub parts_stay : {P N : Type 0} (r : System P N) (t : ℕ) → length (world_at r t).parts ≡ length r.start.world.parts
+parts_stay : {P N : Type 0} (r : System P N) (t : ℕ) → length (world_at r t).parts ≡ length r.start.world.parts
 parts_stay r zero = refl
 parts_stay r (suc t) = length-map_index _ 0 (world_at r t).parts ∙ parts_stay r t
 
-pub links_stay : {P N : Type 0} (r : System P N) (t : ℕ) → length (world_at r t).links ≡ length r.start.world.links
+links_stay : {P N : Type 0} (r : System P N) (t : ℕ) → length (world_at r t).links ≡ length r.start.world.links
 links_stay r zero = refl
 links_stay r (suc t) = length-map_index _ 0 (world_at r t).links ∙ links_stay r t
 
-length-map : {A B : Type 0} (f : A → B) (xs : List A) → length (map f xs) ≡ length xs
-length-map f [] = refl
-length-map f (x ∷ xs) = ap suc (length-map f xs)
+-- each part of a world has a name
+pub part_count : (plan : PlanView Part LinkKind) (t : ℕ) (w : WorldState Part LinkKind) (names : List (List ℕ)) → names ≡ plan.part_names → w ≡ world_at (loop_of plan) t → length plan.part_names ≡ length plan.parts → length names ≡ length w.parts
+part_count plan t w names e is count =
+    ap length e ∙ count ∙ sym (parts_stay (loop_of plan) t) ∙ sym (ap (λ (v : WorldState Part LinkKind). length v.parts) is)
 
--- each relay has a name
-pub part_count : (n until t : ℕ) → length (map relay_name (up_to n)) ≡ length (world_at (ring_system n until) t).parts
-part_count n until t =
-    length-map relay_name (up_to n) ∙ sym (length-map _ (up_to n)) ∙ sym (parts_stay (ring_system n until) t)
-
--- and so has the link
-pub link_count : (n until t : ℕ) → length (codes "net" ∷ []) ≡ length (world_at (ring_system n until) t).links
-link_count n until t = sym (links_stay (ring_system n until) t)
+-- and so has each link
+pub link_count : (plan : PlanView Part LinkKind) (t : ℕ) (w : WorldState Part LinkKind) (names : List (List ℕ)) → names ≡ plan.link_names → w ≡ world_at (loop_of plan) t → length plan.link_names ≡ length plan.links → length names ≡ length w.links
+link_count plan t w names e is count =
+    ap length e ∙ count ∙ sym (links_stay (loop_of plan) t) ∙ sym (ap (λ (v : WorldState Part LinkKind). length v.links) is)
 
 -- a report of the same things is the same
 pub report_same : (a b c d : List (List ℕ)) (budget : ℕ) (v w : WorldState Part LinkKind) (x y : Verdict) (e f : ℕ) → a ≡ b → c ≡ d → v ≡ w → x ≡ y → e ≡ f → report_of a c budget v x e ≡ report_of b d budget w y f

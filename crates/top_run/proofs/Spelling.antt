@@ -1,29 +1,130 @@
 -- No two commands are written alike, so that what a run of the words leaves is told by their command.
-use Rattle.std.proofs.Common.{◌≡◌, ℕ, List, ◌⊎◌, inr, refl, sym, ap, subst, ◌∙◌, arith}
-use Rattle.std.specs.Prelude.{Option, Some, slice_get}
+use Rattle.std.proofs.Common.{◌≡◌, ℕ, ◌≤◌, List, [], ◌∷◌, ◌⊎◌, inr, refl, sym, ap, subst, ◌∙◌, arith}
+use Rattle.std.specs.Prelude.{Option, Some, None, slice_get, codes, flat_map, IfSome, Result, Ok, Err}
 use Rattle.std.specs.Fmt.{decimal}
 use Rattle.std.proofs.lemmas.Fmt.{decimal_injective}
-use Rattle.top_run.specs.declared.command.Ring.{Ring}
-use Rattle.top_run.specs.Words.{words_of, InRange, Accepts}
-use Rattle.top_run.specs.Top.{verdict_for, written_for, status_of}
-use Rattle.tick_law.specs.declared.verdict.Verdict.{Verdict}
+use Rattle.sim_base.specs.declared.time.Time.{Time}
 use Rattle.sim_io.specs.Sink.{Got}
-use Rattle.top_run.proofs.Refusals.{command_of}
+use Rattle.top_run.specs.declared.command.Ring.{Ring}
+use Rattle.top_run.specs.declared.command.Options.{Options}
+use Rattle.top_run.specs.declared.command.Command.{Command}
+use Rattle.top_run.specs.declared.command.Command.TheVariants as commands
+use Rattle.top_run.specs.declared.job.Job.{Job}
+use Rattle.top_run.specs.Words.{latest, InRange, Setting, Until, setting_words, with_setting, no_options, Lead, AreSettings, AreRing, command_word, AreBehind, Accepts, RefusedAt}
+use Rattle.top_run.specs.Job.{Rule, job_for, told_for, Means, IsTold, IsWithin}
+use Rattle.top_run.specs.Top.{engine_of, job_status, job_written, HasRun, SomeFile, SomeJob, ReadFailed}
+use Rattle.top_run.proofs.CommandRefusals.{ring_of, differ}
 
-word_same : (r q : Ring) (k m n : ℕ) → words_of r ≡ words_of q → slice_get (words_of r) k ≡ Some (decimal m) → slice_get (words_of q) k ≡ Some (decimal n) → decimal m ≡ decimal n
-word_same r q k m n e x y =
-    let z : Some (decimal m) ≡ Some (decimal n) = sym x ∙ ap (λ l. slice_get l k) e ∙ y in
-    cc
+-- the same numbers
+ring_same : (rest : List (List ℕ)) (r q : Ring) → AreRing r rest → AreRing q rest → r ≡ q
+ring_same rest r q (e, a) (f, b) =
+    let first : decimal r.relays ≡ decimal q.relays = cc in
+    let second : decimal r.until.0 ≡ decimal q.until.0 = cc in
+    let relays : r.relays ≡ q.relays = decimal_injective r.relays q.relays (omega (arith, a)) (omega (arith, b)) first in
+    let until : r.until.0 ≡ q.until.0 = decimal_injective r.until.0 q.until.0 (omega (arith, a)) (omega (arith, b)) second in
+    ap (λ n. ring_of n r.until.0) relays ∙ ap (λ t. ring_of q.relays t) until
 
-pub spelled_same : (r q : Ring) → InRange r → InRange q → words_of r ≡ words_of q → r ≡ q
-spelled_same r q a b e =
-    let relays : r.relays ≡ q.relays = decimal_injective r.relays q.relays (omega (arith, a)) (omega (arith, b)) (word_same r q 1 r.relays q.relays e refl refl) in
-    let until : r.until.0 ≡ q.until.0 = decimal_injective r.until.0 q.until.0 (omega (arith, a)) (omega (arith, b)) (word_same r q 2 r.until.0 q.until.0 e refl refl) in
-    ap (λ n. command_of n r.until.0) relays ∙ ap (λ t. command_of q.relays t) until
+-- the same options
+settings_same : (ss tt : List Setting) (before o p : Options) → flat_map setting_words ss ≡ flat_map setting_words tt → Lead before ss o → Lead before tt p → o ≡ p
+settings_same [] [] before o p e a b = sym a ∙ b
+settings_same [] (Until m ∷ tt) before o p e a b = absurd (cc)
+settings_same (Until n ∷ ss) [] before o p e a b = absurd (cc)
+settings_same (Until n ∷ ss) (Until m ∷ tt) before o p e (_, within, a) (_, near, b) =
+    let first : decimal n ≡ decimal m = cc in
+    let rest : flat_map setting_words ss ≡ flat_map setting_words tt = cc in
+    let same : n ≡ m = decimal_injective n m (omega (arith, within)) (omega (arith, near)) first in
+    settings_same ss tt (with_setting before (Until m)) o p rest (subst (λ i. Lead (with_setting before (Until i)) ss o) same a) b
 
-accepted_same : (words : List (List ℕ)) (r q : Ring) → Accepts words r → Accepts words q → r ≡ q
-accepted_same words r q a b = spelled_same r q a.range b.range (sym a.spelling ∙ b.spelling)
+options_same : (rest : List (List ℕ)) (before o p : Options) → AreSettings before o rest → AreSettings before p rest → o ≡ p
+options_same rest before o p (ss, e, a) (ts, f, b) = settings_same ss ts before o p (sym e ∙ f) a b
 
-pub completed : {X : Ring → Type 0} (words : List (List ℕ)) (status : ℕ) (verdict : Verdict) (old new : Option (List ℕ)) (ring : Ring) → Accepts words ring → (q : Ring) × Accepts words q × (verdict ≡ verdict_for q) × Got old new (written_for q) × X q → status ≡ status_of verdict → (status ≡ 8) ⊎ ((status ≡ status_of (verdict_for ring)) × Got old new (written_for ring))
-completed words status verdict old new ring a (q, taken, same, got, rest) e =
-    subst (λ r. (status ≡ 8) ⊎ ((status ≡ status_of (verdict_for r)) × Got old new (written_for r))) (accepted_same words q ring taken a) (inr (e ∙ ap status_of same, got))
+behind_same : (c d : Command) (rest : List (List ℕ)) → command_word c ≡ command_word d → AreBehind c rest → AreBehind d rest → c ≡ d
+behind_same (commands.Ring r) (commands.Ring q) rest e a b = ap (λ x. commands.Ring x) (ring_same rest r q a b)
+behind_same (commands.Ring r) (commands.Check g) rest e a b = differ (codes "ring") (codes "check") (λ h. omega (arith, h)) e
+behind_same (commands.Ring r) (commands.Run g p) rest e a b = absurd (cc)
+behind_same (commands.Ring r) (commands.Slow g p) rest e a b = differ (codes "ring") (codes "slow") (λ h. omega (arith, h)) e
+behind_same (commands.Check f) (commands.Ring q) rest e a b = differ (codes "check") (codes "ring") (λ h. omega (arith, h)) e
+behind_same (commands.Check f) (commands.Check g) rest e (a, _) (b, _) = let same : f ≡ g = cc in ap (λ x. commands.Check x) same
+behind_same (commands.Check f) (commands.Run g p) rest e a b = differ (codes "check") (codes "run") (λ h. omega (arith, h)) e
+behind_same (commands.Check f) (commands.Slow g p) rest e a b = differ (codes "check") (codes "slow") (λ h. omega (arith, h)) e
+behind_same (commands.Run f o) (commands.Ring q) rest e a b = absurd (cc)
+behind_same (commands.Run f o) (commands.Check g) rest e a b = differ (codes "run") (codes "check") (λ h. omega (arith, h)) e
+behind_same (commands.Run f o) (commands.Run g p) rest e (s, a, _, x) (t, b, _, y) =
+    let file : f ≡ g = cc in
+    let same : s ≡ t = cc in
+    let options : o ≡ p = options_same t no_options o p (subst (λ l. AreSettings no_options o l) same x) y in
+    ap (λ z. commands.Run z o) file ∙ ap (λ z. commands.Run g z) options
+behind_same (commands.Run f o) (commands.Slow g p) rest e a b = differ (codes "run") (codes "slow") (λ h. omega (arith, h)) e
+behind_same (commands.Slow f o) (commands.Ring q) rest e a b = differ (codes "slow") (codes "ring") (λ h. omega (arith, h)) e
+behind_same (commands.Slow f o) (commands.Check g) rest e a b = differ (codes "slow") (codes "check") (λ h. omega (arith, h)) e
+behind_same (commands.Slow f o) (commands.Run g p) rest e a b = differ (codes "slow") (codes "run") (λ h. omega (arith, h)) e
+behind_same (commands.Slow f o) (commands.Slow g p) rest e (s, a, _, x) (t, b, _, y) =
+    let file : f ≡ g = cc in
+    let same : s ≡ t = cc in
+    let options : o ≡ p = options_same t no_options o p (subst (λ l. AreSettings no_options o l) same x) y in
+    ap (λ z. commands.Slow z o) file ∙ ap (λ z. commands.Slow g z) options
+
+pub accepted_same : (words : List (List ℕ)) (c d : Command) → Accepts words c → Accepts words d → c ≡ d
+accepted_same words c d (s, e, a) (t, f, b) =
+    let word : command_word c ≡ command_word d = cc in
+    let same : s ≡ t = cc in
+    behind_same c d t word (subst (λ l. AreBehind c l) same a) b
+
+-- what the files tell of a command is what it means
+pub meaning_same : (contents : List ℕ → Option (List ℕ)) (c : Command) (x y : Result Job Rule) → IsTold contents c x → Means contents c y → y ≡ x
+meaning_same contents c x y (b, e, m) (b', h, m') =
+    let same : b' ≡ b = subst (λ o. IfSome o (λ own. b' ≡ own)) e h in
+    sym m' ∙ ap (λ bytes. job_for c bytes) same ∙ m
+
+pub completed : (contents : List ℕ → Option (List ℕ)) (words : List (List ℕ)) (status : ℕ) (old new : Option (List ℕ)) (before after : ℕ) (c : Command) (job : Job) → Accepts words c → IsTold contents c (Ok job) → HasRun contents words status old new before after → (status ≡ 8) ⊎ ((status ≡ job_status (engine_of c) job) × Got old new (job_written (engine_of c) job))
+completed contents words status old new before after c job accepts told h =
+    let same : h.command ≡ c = accepted_same words h.command c h.is_job.accepts accepts in
+    let means : Means contents c (Ok h.job) = subst (λ d. Means contents d (Ok h.job)) same h.is_job.means in
+    let equal : Ok h.job ≡ Ok job = meaning_same contents c (Ok job) (Ok h.job) told means in
+    let jobs : h.job ≡ job = cc in
+    inr (
+      h.status_is ∙ ap (λ d. job_status (engine_of d) h.job) same ∙ ap (λ j. job_status (engine_of c) j) jobs,
+      subst (λ j. Got old new (job_written (engine_of c) j)) jobs (subst (λ d. Got old new (job_written (engine_of d) h.job)) same h.written),
+    )
+
+-- a file that breaks a rule is not run
+pub not_run : {A : Type 0} (contents : List ℕ → Option (List ℕ)) (words : List (List ℕ)) (status : ℕ) (old new : Option (List ℕ)) (before after : ℕ) (c : Command) (rule : Rule) → Accepts words c → IsTold contents c (Err rule) → HasRun contents words status old new before after → A
+not_run contents words status old new before after c rule accepts told h =
+    let same : h.command ≡ c = accepted_same words h.command c h.is_job.accepts accepts in
+    let means : Means contents c (Ok h.job) = subst (λ d. Means contents d (Ok h.job)) same h.is_job.means in
+    let equal : Ok h.job ≡ Err rule = meaning_same contents c (Err rule) (Ok h.job) told means in
+    absurd (cc)
+
+-- a file that means a job breaks no rule
+pub not_broken : {A : Type 0} (contents : List ℕ → Option (List ℕ)) (words : List (List ℕ)) (c : Command) (job : Job) (rule : Rule) → Accepts words c → IsTold contents c (Ok job) → SomeFile words (λ command. Means contents command (Err rule)) → A
+not_broken contents words c job rule accepts told (d, taken, m) =
+    let same : d ≡ c = accepted_same words d c taken accepts in
+    let equal : Err rule ≡ Ok job = meaning_same contents c (Ok job) (Err rule) told (subst (λ e. Means contents e (Err rule)) same m) in
+    absurd (cc)
+
+-- a reading that failed is that of the command's own file
+pub not_failed : {A : Type 0} {X : Command → Type 0} (words : List (List ℕ)) (first last : List ℕ → ℕ) (c : Command) → Accepts words c → (ReadFailed first last c → ⊥) → SomeFile words (λ command. ReadFailed first last command × X command) → A
+not_failed words first last c accepts calm (d, taken, is) =
+    absurd (calm (subst (λ e. ReadFailed first last e) (accepted_same words d c taken accepts) is.0))
+
+-- the budget that a command gives is one that files may have
+within_from : (ss : List Setting) (before after : Options) → Lead before ss after → IfSome before.until (λ t. t.0 ≤ latest) → IfSome after.until (λ t. t.0 ≤ latest)
+within_from [] before after e is = subst (λ (o : Options). IfSome o.until (λ t. t.0 ≤ latest)) e is
+within_from (Until n ∷ ss) before after (free, near, lead) is = within_from ss (with_setting before (Until n)) after lead near
+
+pub accepted_within : (words : List (List ℕ)) (c : Command) → Accepts words c → IsWithin c
+accepted_within words (commands.Ring r) (rest, e, (f, range)) = range
+accepted_within words (commands.Check f) a = tt
+accepted_within words (commands.Run f o) (rest, e, (more, g, file, (ss, h, lead))) = within_from ss no_options o lead tt
+accepted_within words (commands.Slow f o) (rest, e, (more, g, file, (ss, h, lead))) = within_from ss no_options o lead tt
+
+-- accepted words are not refused
+pub refused_none : {A : Type 0} (words : List (List ℕ)) (k : ℕ) (c : Command) → Accepts words c → RefusedAt words k → A
+refused_none words k c accepts r = absurd (r.none (words, (c, accepts), refl))
+
+-- a file that breaks a rule means no job
+pub not_job : {A : Type 0} (contents : List ℕ → Option (List ℕ)) (words : List (List ℕ)) (fact : Command → Job → Type 0) (c : Command) (rule : Rule) → Accepts words c → IsTold contents c (Err rule) → SomeJob contents words fact → A
+not_job contents words fact c rule accepts told (d, job, is, more) =
+    let same : d ≡ c = accepted_same words d c is.accepts accepts in
+    let equal : Ok job ≡ Err rule = meaning_same contents c (Err rule) (Ok job) told (subst (λ e. Means contents e (Ok job)) same is.means) in
+    absurd (cc)

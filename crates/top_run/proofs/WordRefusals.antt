@@ -1,126 +1,114 @@
 -- Where words are refused.
-use Rattle.std.proofs.Common.{◌≡◌, ℕ, zero, suc, ◌<◌, ◌≤◌, List, [], ◌∷◌, length, take, codes, get_or, refl, sym, ap, ◌∙◌, subst, arith}
-use Rattle.std.specs.Prelude.{Some, None, slice_get}
-use Rattle.std.specs.Fmt.{decimal}
-use Rattle.top_run.specs.declared.command.Ring.{Ring}
-use Rattle.std.specs.Prelude.{String}
+use Rattle.std.proofs.Common.{◌≡◌, ℕ, zero, suc, ◌+◌, ◌<◌, ◌≤◌, List, [], ◌∷◌, length, take, drop, codes, refl, sym, ap, ◌∙◌, subst, arith}
+use Rattle.std.specs.Prelude.{Some, None, slice_get, String, get_or, Result, Ok, Err, IfOk, IfErr}
 use Rattle.std.specs.Global.{Global}
-use Rattle.top_run.specs.Words.{spelled, words_of, InRange, Accepts, Shares, RefusedAt, IsNumberAt}
+use Rattle.top_run.specs.Words.{spelled, Shares, IsRefused, IsRefusedFrom, IsAccepted, IsBehind, RefusedAt, command_word, AreBehind, IsUsage}
+use Rattle.top_run.specs.declared.command.Command.{Command}
+use Rattle.top_run.specs.declared.refusal.Refusal.{Refusal}
+use Rattle.top_run.specs.declared.refusal.Refusal.TheVariants as refusals
 
-abbrev pub command_of : ℕ → ℕ → Ring
-command_of n until = record { relays = n; until = record { 0 = until } }
+-- the words from a place on begin with the word of this place
+pub drop_at : {A : Type 0} (words : List A) (place : ℕ) (w : A) → slice_get words place ≡ Some w → drop place words ≡ w ∷ drop (suc place) words
+drop_at [] place w e = absurd (cc)
+drop_at (v ∷ vs) zero w e = let same : v ≡ w = cc in ap (λ x. x ∷ vs) same
+drop_at (v ∷ vs) (suc place) w e = drop_at vs place w e
 
-at_zero : {A : Type 0} (x : A) (words : List A) → slice_get words 0 ≡ Some x → take 1 words ≡ x ∷ []
-at_zero x [] e = absurd (cc)
-at_zero x (w ∷ ws) e = let same : w ≡ x = cc in ap (λ y. y ∷ []) same
+-- what the words from a place on share of one word is the word of this place
+first_shared : {A : Type 0} (words : List A) (place : ℕ) (v : A) (t : List A) → take 1 (v ∷ t) ≡ take 1 (drop place words) → slice_get words place ≡ Some v
+first_shared [] zero v t e = absurd (cc)
+first_shared [] (suc place) v t e = absurd (cc)
+first_shared (w ∷ ws) zero v t e = let same : v ≡ w = cc in ap (λ x. Some x) (sym same)
+first_shared (w ∷ ws) (suc place) v t e = first_shared ws place v t e
 
-at_one : {A : Type 0} (x y : A) (words : List A) → slice_get words 0 ≡ Some x → slice_get words 1 ≡ Some y → take 2 words ≡ x ∷ y ∷ []
-at_one x y [] e f = absurd (cc)
-at_one x y (w ∷ ws) e f =
-    let same : w ≡ x = cc in
-    let rest : slice_get ws 0 ≡ Some y = f in
-    ap (λ z. z ∷ take 1 ws) same ∙ ap (λ l. x ∷ l) (at_zero y ws rest)
+some_left : {A : Type 0} (words : List A) (place : ℕ) → place < length words → [] ≡ take 1 (drop place words) → ⊥
+some_left [] place b e = absurd (omega (arith, b))
+some_left (w ∷ ws) zero b e = absurd (cc)
+some_left (w ∷ ws) (suc place) b e = some_left ws place (omega (arith, b)) e
 
-at_two : {A : Type 0} (x y z : A) (words : List A) → slice_get words 0 ≡ Some x → slice_get words 1 ≡ Some y → slice_get words 2 ≡ Some z → take 3 words ≡ x ∷ y ∷ z ∷ []
-at_two x y z [] e f g = absurd (cc)
-at_two x y z (w ∷ ws) e f g =
-    let same : w ≡ x = cc in
-    let first : slice_get ws 0 ≡ Some y = f in
-    let second : slice_get ws 1 ≡ Some z = g in
-    ap (λ v. v ∷ take 2 ws) same ∙ ap (λ l. x ∷ l) (at_one y z ws first second)
+-- no list of a sort goes on with the word of this place
+pub from_here : (sort : List (List ℕ) → Type 0) (words : List (List ℕ)) (place k : ℕ) (others : List (List ℕ)) → sort others → k ≡ place + 1 → (sort [] → place < length words) → ((v : List ℕ) (t : List (List ℕ)) → sort (v ∷ t) → slice_get words place ≡ Some v → ⊥) → IsRefusedFrom sort words place k
+from_here sort words place k others some e ended other = (
+  0,
+  e,
+  record {
+    none = λ (t, is, same). not t is same;
+    before = λ j b. subst (λ i. Shares sort i (drop place words)) (let z : 0 ≡ j = omega (arith, b) in z) (others, some, refl);
+  },
+)
+  where
+    not : (t : List (List ℕ)) → sort t → take 1 t ≡ take 1 (drop place words) → ⊥
+    not [] is same = some_left words place (ended is) same
+    not (v ∷ t) is same = other v t is (first_shared words place v t same)
 
-get_taken : {A : Type 0} (k n : ℕ) (words : List A) → k < n → slice_get (take n words) k ≡ slice_get words k
-get_taken k zero words b = absurd (omega (arith, b))
-get_taken k (suc n) [] b = refl
-get_taken zero (suc n) (w ∷ ws) b = refl
-get_taken (suc k) (suc n) (w ∷ ws) b = get_taken k n ws (omega (arith, b))
-
-shares_none : (words : List (List ℕ)) → Shares 0 words
-shares_none words = (command_of 1 0, (omega arith, omega arith, omega arith), refl)
-
-shares_one : (words : List (List ℕ)) → slice_get words 0 ≡ Some (codes "ring") → Shares 1 words
-shares_one words e = (command_of 1 0, (omega arith, omega arith, omega arith), sym (at_zero (codes "ring") words e))
-
-shares_two : (words : List (List ℕ)) (n : ℕ) → slice_get words 0 ≡ Some (codes "ring") → IsNumberAt words 1 1 256 n → Shares 2 words
-shares_two words n e f = (command_of n 0, (f.from, f.within, omega arith), sym (at_one (codes "ring") (decimal n) words e f.word))
-
-shares_three : (words : List (List ℕ)) (n until : ℕ) → slice_get words 0 ≡ Some (codes "ring") → IsNumberAt words 1 1 256 n → IsNumberAt words 2 0 500000000000 until → Shares 3 words
-shares_three words n until e f g = (command_of n until, (f.from, f.within, g.within), sym (at_two (codes "ring") (decimal n) (decimal until) words e f.word g.word))
-
--- what the words are that an accepted list shares
-shared_at : (words : List (List ℕ)) (r : Ring) (k n : ℕ) → k < n → take n (words_of r) ≡ take n words → slice_get (words_of r) k ≡ slice_get words k
-shared_at words r k n b e = sym (get_taken k n (words_of r) b) ∙ ap (λ l. slice_get l k) e ∙ get_taken k n words b
-
-pub refused_first : (words : List (List ℕ)) → (slice_get words 0 ≡ Some (codes "ring") → ⊥) → RefusedAt words 1
-refused_first words other = record {
-  none = λ (r, range, same). not_first r same;
-  before = λ j b. subst (λ i. Shares i words) (let z : 0 ≡ j = omega (arith, b) in z) (shares_none words);
+refused_behind : (sort rest_sort : List (List ℕ) → Type 0) (w : List ℕ) (words rest : List (List ℕ)) (k : ℕ) → words ≡ w ∷ rest → ((t : List (List ℕ)) → rest_sort t → sort (w ∷ t)) → ((t : List (List ℕ)) → sort (w ∷ t) → rest_sort t) → IsRefused rest_sort rest (suc k) → IsRefused sort words (suc (suc k))
+refused_behind sort rest_sort w words rest k e put off r = record {
+  none = λ (t, is, same). not t is (same ∙ ap (take (suc (suc k))) e);
+  before = λ j b. sharing j b;
 }
   where
-    not_first : (r : Ring) → take 1 (words_of r) ≡ take 1 words → ⊥
-    not_first r same = other (sym (shared_at words r 0 1 (omega arith) same))
+    not : (t : List (List ℕ)) → sort t → take (suc (suc k)) t ≡ w ∷ take (suc k) rest → ⊥
+    not [] is same = absurd (cc)
+    not (v ∷ t) is same =
+        let head : v ≡ w = cc in
+        let tail : take (suc k) t ≡ take (suc k) rest = cc in
+        r.none (t, off t (subst (λ x. sort (x ∷ t)) head is), tail)
 
-below_two : (C : ℕ → Type 0) (j : ℕ) → j < 2 → C 0 → C 1 → C j
-below_two C zero b x y = x
-below_two C (suc zero) b x y = y
-below_two C (suc (suc j)) b x y = absurd (omega (arith, b))
+    shared : (j : ℕ) → Shares rest_sort j rest → Shares sort (suc j) words
+    shared j (t, is, same) = (w ∷ t, put t is, ap (λ l. w ∷ l) same ∙ sym (ap (take (suc j)) e))
 
-pub refused_second : (words : List (List ℕ)) → slice_get words 0 ≡ Some (codes "ring") → ((n : ℕ) → IsNumberAt words 1 1 256 n → ⊥) → RefusedAt words 2
-refused_second words e other = record {
-  none = λ (r, range, same). not_second r range same;
-  before = λ j b. below_two (λ i. Shares i words) j b (shares_none words) (shares_one words e);
-}
+    none_shared : Shares rest_sort 0 rest → Shares sort 0 words
+    none_shared (t, is, same) = (w ∷ t, put t is, refl)
+
+    sharing : (j : ℕ) → j < suc (suc k) → Shares sort j words
+    sharing zero b = none_shared (r.before 0 (omega arith))
+    sharing (suc j) b = shared j (r.before j (omega (arith, b)))
+
+-- the word of this place is one that lists of a sort go on with, and what stands behind it is refused
+pub from_behind : (sort rest_sort : List (List ℕ) → Type 0) (w : List ℕ) (words : List (List ℕ)) (place k : ℕ) → slice_get words place ≡ Some w → ((t : List (List ℕ)) → rest_sort t → sort (w ∷ t)) → ((t : List (List ℕ)) → sort (w ∷ t) → rest_sort t) → IsRefusedFrom rest_sort words (suc place) k → IsRefusedFrom sort words place k
+from_behind sort rest_sort w words place k e put off (j, at, r) =
+    (suc j, omega (arith, at), refused_behind sort rest_sort w (drop place words) (drop (suc place) words) j (drop_at words place w e) put off r)
+
+-- two sorts are the same
+pub from_same : (sort other : List (List ℕ) → Type 0) (words : List (List ℕ)) (place k : ℕ) → ((t : List (List ℕ)) → other t → sort t) → ((t : List (List ℕ)) → sort t → other t) → IsRefusedFrom other words place k → IsRefusedFrom sort words place k
+from_same sort other words place k put off (j, at, r) = (
+  j,
+  at,
+  record {
+    none = λ (t, is, same). r.none (t, off t is, same);
+    before = λ i b. given i (r.before i b);
+  },
+)
   where
-    not_second : (r : Ring) → InRange r → take 2 (words_of r) ≡ take 2 words → ⊥
-    not_second r range same = other r.relays (record { word = sym (shared_at words r 1 2 (omega arith) same); from = range.0; within = range.1 })
+    given : (i : ℕ) → Shares other i (drop place words) → Shares sort i (drop place words)
+    given i (t, is, same) = (t, put t is, same)
 
-below_three : (C : ℕ → Type 0) (j : ℕ) → j < 3 → C 0 → C 1 → C 2 → C j
-below_three C zero b x y z = x
-below_three C (suc zero) b x y z = y
-below_three C (suc (suc zero)) b x y z = z
-below_three C (suc (suc (suc j))) b x y z = absurd (omega (arith, b))
+from_start : (words : List (List ℕ)) (k : ℕ) → IsRefusedFrom IsAccepted words 0 k → RefusedAt words k
+from_start words k (j, at, r) = subst (λ i. IsRefused IsAccepted words i) (let e : suc j ≡ k = omega (arith, at) in e) r
 
-pub refused_third : (words : List (List ℕ)) (n : ℕ) → slice_get words 0 ≡ Some (codes "ring") → IsNumberAt words 1 1 256 n → ((until : ℕ) → IsNumberAt words 2 0 500000000000 until → ⊥) → RefusedAt words 3
-refused_third words n e f other = record {
-  none = λ (r, range, same). not_third r range same;
-  before = λ j b. below_three (λ i. Shares i words) j b (shares_none words) (shares_one words e) (shares_two words n e f);
-}
+-- the first word is that of some command, and what stands behind it is refused
+pub behind_word : (w : List ℕ) (words : List (List ℕ)) (k : ℕ) → slice_get words 0 ≡ Some w → IsRefusedFrom (IsBehind w) words 1 k → RefusedAt words k
+behind_word w words k e r = from_start words k (from_behind IsAccepted (IsBehind w) w words 0 k e put off r)
   where
-    not_third : (r : Ring) → InRange r → take 3 (words_of r) ≡ take 3 words → ⊥
-    not_third r range same = other r.until.0 (record { word = sym (shared_at words r 2 3 (omega arith) same); from = omega arith; within = range.2 })
+    put : (t : List (List ℕ)) → IsBehind w t → IsAccepted (w ∷ t)
+    put t (c, is, behind) = (c, (t, ap (λ x. x ∷ t) (sym is), behind))
 
-below_four : (C : ℕ → Type 0) (j : ℕ) → j < 4 → C 0 → C 1 → C 2 → C 3 → C j
-below_four C zero b x y z w = x
-below_four C (suc zero) b x y z w = y
-below_four C (suc (suc zero)) b x y z w = z
-below_four C (suc (suc (suc zero))) b x y z w = w
-below_four C (suc (suc (suc (suc j)))) b x y z w = absurd (omega (arith, b))
+    off : (t : List (List ℕ)) → IsAccepted (w ∷ t) → IsBehind w t
+    off t (c, (rest, e, behind)) =
+        let head : w ≡ command_word c = cc in
+        let tail : t ≡ rest = cc in
+        (c, sym head, subst (λ l. AreBehind c l) (sym tail) behind)
 
-some_there : {A : Type 0} (words : List A) (k : ℕ) → k < length words → slice_get words k ≡ None → ⊥
-some_there [] k b e = absurd (omega (arith, b))
-some_there (w ∷ ws) zero b e = absurd (cc)
-some_there (w ∷ ws) (suc k) b e = some_there ws k (omega (arith, b)) e
-
-pub refused_fourth : (words : List (List ℕ)) (n until : ℕ) → slice_get words 0 ≡ Some (codes "ring") → IsNumberAt words 1 1 256 n → IsNumberAt words 2 0 500000000000 until → 3 < length words → RefusedAt words 4
-refused_fourth words n until e f g long = record {
-  none = λ (r, range, same). not_fourth r same;
-  before = λ j b. below_four (λ i. Shares i words) j b (shares_none words) (shares_one words e) (shares_two words n e f) (shares_three words n until e f g);
-}
+-- the first word is that of no command
+pub no_word : (words : List (List ℕ)) → ((c : Command) → slice_get words 0 ≡ Some (command_word c) → ⊥) → IsAccepted (codes "check" ∷ codes "a" ∷ []) → RefusedAt words 1
+no_word words other some = from_start words 1 (from_here IsAccepted words 0 1 _ some refl ended not)
   where
-    not_fourth : (r : Ring) → take 4 (words_of r) ≡ take 4 words → ⊥
-    not_fourth r same = some_there words 3 long (sym (shared_at words r 3 4 (omega arith) same))
+    ended : IsAccepted [] → 0 < length words
+    ended (c, (rest, e, behind)) = absurd (cc)
 
-take_all : {A : Type 0} (words : List A) (n : ℕ) → length words ≤ n → take n words ≡ words
-take_all [] zero b = refl
-take_all [] (suc n) b = refl
-take_all (w ∷ ws) zero b = absurd (omega (arith, b))
-take_all (w ∷ ws) (suc n) b = ap (λ l. w ∷ l) (take_all ws n (omega (arith, b)))
-
-pub accepted : (words : List (List ℕ)) (n until : ℕ) → slice_get words 0 ≡ Some (codes "ring") → IsNumberAt words 1 1 256 n → IsNumberAt words 2 0 500000000000 until → length words ≤ 3 → Accepts words (command_of n until)
-accepted words n until e f g short = record {
-  spelling = sym (take_all words 3 short) ∙ at_two (codes "ring") (decimal n) (decimal until) words e f.word g.word;
-  range = (f.from, f.within, g.within);
-}
+    not : (v : List ℕ) (t : List (List ℕ)) → IsAccepted (v ∷ t) → slice_get words 0 ≡ Some v → ⊥
+    not v t (c, (rest, e, behind)) at =
+        let head : v ≡ command_word c = cc in
+        other c (at ∙ ap (λ x. Some x) head)
 
 pub length-spelled : (words : List (String Global)) → length (spelled words) ≡ length words
 length-spelled [] = refl
@@ -135,3 +123,28 @@ pub got_none : {A : Type 0} (xs : List A) (k : ℕ) → length xs ≤ k → slic
 got_none [] k b = refl
 got_none (y ∷ ys) zero b = absurd (omega (arith, b))
 got_none (y ∷ ys) (suc k) b = got_none ys k (omega (arith, b))
+
+-- no word stands from a place on
+pub drop_all : {A : Type 0} (xs : List A) (k : ℕ) → length xs ≤ k → drop k xs ≡ []
+drop_all [] zero b = refl
+drop_all [] (suc k) b = refl
+drop_all (y ∷ ys) zero b = absurd (omega (arith, b))
+drop_all (y ∷ ys) (suc k) b = drop_all ys k (omega (arith, b))
+
+-- what is true of a number is so of the refusal at it
+pub usage_map : (fact other : ℕ → Type 0) (r : Refusal) → ((k : ℕ) → fact k → other k) → IsUsage fact r → IsUsage other r
+usage_map fact other (refusals.Usage k) f is = f k is
+usage_map fact other (refusals.Read file) f is = is
+usage_map fact other (refusals.Config fault) f is = is
+usage_map fact other (refusals.Plan breach) f is = is
+usage_map fact other refusals.Write f is = is
+usage_map fact other (refusals.WriteAt d) f is = is
+usage_map fact other refusals.OutOfMemory f is = is
+
+pub ok_map : {A E : Type 0} (fact other : A → Type 0) (r : Result A E) → ((x : A) → fact x → other x) → IfOk r fact → IfOk r other
+ok_map fact other (Ok x) f is = f x is
+ok_map fact other (Err e) f is = is
+
+pub err_map : {A E : Type 0} (fact other : E → Type 0) (r : Result A E) → ((x : E) → fact x → other x) → IfErr r fact → IfErr r other
+err_map fact other (Ok x) f is = is
+err_map fact other (Err e) f is = f e is

@@ -1,2 +1,4 @@
 pub mod Words
 pub mod Top
+pub mod Refusals
+pub mod Job

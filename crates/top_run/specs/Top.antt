@@ -1,40 +1,60 @@
 -- What a run of the program leaves.
-use Rattle.std.specs.Prelude.{◌≡◌, ℕ, ◌+◌, ◌≤◌, List, [], ◌∷◌, ◌++◌, map, codes, false, Option, ◌⊎◌}
+use Rattle.std.specs.Prelude.{◌≡◌, ℕ, ◌+◌, ◌<◌, ◌≤◌, List, [], ◌∷◌, ◌++◌, length, codes, false, Option, Some, None, ◌⊎◌, Ok, Err}
 use Rattle.std.specs.Fmt.{decimal}
-use Rattle.tick_law.specs.SerialLoop.{world_at, records_below}
+use Rattle.tick_law.specs.PlanView.{PlanView, system_of}
+use Rattle.tick_law.specs.SerialLoop.{System, world_at, records_below, edges_below}
 use Rattle.tick_law.specs.Verdict.{verdict_at, end_at, awake_below}
 use Rattle.tick_law.specs.declared.verdict.Verdict.{Verdict}
 use Rattle.tick_law.specs.declared.verdict.Verdict.TheVariants.{Finished, Stuck, Cut}
+use Rattle.part_kind.specs.Part.{part}
+use Rattle.part_kind.specs.LinkKind.{link}
+use Rattle.part_kind.specs.declared.part.Part.{Part}
+use Rattle.part_kind.specs.declared.link_kind.LinkKind.{LinkKind}
 use Rattle.sim_io.specs.Sink.{Rose, Got, GotPrefix}
 use Rattle.state_view.specs.Report.{report_of}
 use Rattle.trace_out.specs.Lines.{lines_of}
 use Rattle.run_gear.specs.PlanNames.{names_of}
-use Rattle.ring_plan.specs.Ring.{up_to, relay_name, ring_plan, ring_system}
-use Rattle.top_run.specs.declared.command.Ring.{Ring}
+use Rattle.run_gear.specs.declared.fault.RunFault.{RunFault}
+use Rattle.run_gear.specs.declared.fault.RunFault.TheVariants as faults
+use Rattle.top_run.specs.declared.command.Command.{Command}
+use Rattle.top_run.specs.declared.command.Command.TheVariants as commands
+use Rattle.top_run.specs.declared.run.Engine.{Engine}
+use Rattle.top_run.specs.declared.run.Engine.TheVariants.{Sleeping, Serial}
+use Rattle.top_run.specs.declared.refusal.Refusal.{Refusal}
+use Rattle.top_run.specs.declared.refusal.Refusal.TheVariants as refusals
+use Rattle.top_run.specs.Words.{Accepts, RefusedAt}
+use Rattle.top_run.specs.declared.job.Job.{Job}
+use Rattle.top_run.specs.Job.{Rule, Config, Plan, Means}
+use Rattle.top_run.specs.Refusals.{line_feed, config_line, plan_line, read_line}
 
--- the verdict of the serial loop's run of a command, which ticks every actor at every edge up to the budget
-abbrev pub verdict_for : Ring → Verdict
-verdict_for ring = verdict_at (ring_system ring.relays ring.until.0) ring.until.0
+-- the serial loop's run of a plan, which ticks every actor at every edge up to the budget
+abbrev pub loop_of : PlanView Part LinkKind → System Part LinkKind
+loop_of plan = system_of part link plan
+
+-- its verdict
+abbrev pub plan_verdict : PlanView Part LinkKind → Verdict
+plan_verdict plan = verdict_at (loop_of plan) plan.until
 
 -- the report of that run: of its world behind the last time, its verdict and its ending time
-abbrev pub report_for : Ring → List ℕ
-report_for ring = report_of (map relay_name (up_to ring.relays)) (codes "net" ∷ []) ring.until.0 (world_at (ring_system ring.relays ring.until.0) (ring.until.0 + 1)) (verdict_at (ring_system ring.relays ring.until.0) ring.until.0) (end_at (ring_system ring.relays ring.until.0) ring.until.0)
+abbrev pub plan_report : PlanView Part LinkKind → List ℕ
+plan_report plan = report_of plan.part_names plan.link_names plan.until (world_at (loop_of plan) (plan.until + 1)) (plan_verdict plan) (end_at (loop_of plan) plan.until)
 
 -- the lines of the records of that run below a boundary: those of bytes that cores wrote, at the end of each time
-abbrev pub lines_upto : Ring → ℕ → List ℕ
-lines_upto ring d = lines_of (names_of (ring_plan ring.relays ring.until.0)) false (records_below (ring_system ring.relays ring.until.0) d)
+abbrev pub plan_lines : PlanView Part LinkKind → ℕ → List ℕ
+plan_lines plan d = lines_of (names_of plan) false (records_below (loop_of plan) d)
 
--- all its lines
-abbrev pub lines_for : Ring → List ℕ
-lines_for ring = lines_upto ring (ring.until.0 + 1)
+-- the steps that an engine is charged for below a boundary: one for each pair of an actor and an edge of it at which it is awake,
+-- or one for each edge
+abbrev pub plan_steps : Engine → PlanView Part LinkKind → ℕ → ℕ
+plan_steps Sleeping plan d = awake_below (loop_of plan) d
+plan_steps Serial plan d = edges_below (loop_of plan) d
 
--- what a run of a command writes: its lines, and then its report
-abbrev pub written_for : Ring → List ℕ
-written_for ring = lines_for ring ++ report_for ring
+-- `ok parts A links B ports C programs D until T`
+abbrev pub check_numbers : ℕ → ℕ → ℕ → ℕ → ℕ → List ℕ
+check_numbers parts links ports programs until = codes "ok parts " ++ decimal parts ++ codes " links " ++ decimal links ++ codes " ports " ++ decimal ports ++ codes " programs " ++ decimal programs ++ codes " until " ++ decimal until ++ codes "\n"
 
--- how many pairs of an actor and an edge of it there are in that run at which the actor is awake
-abbrev pub steps_for : Ring → ℕ
-steps_for ring = awake_below (ring_system ring.relays ring.until.0) (ring.until.0 + 1)
+abbrev pub check_line : Job → List ℕ
+check_line job = check_numbers (length job.plan.parts) (length job.plan.links) (length job.plan.ports) job.programs job.plan.until
 
 -- the status of a verdict
 abbrev pub status_of : Verdict → ℕ
@@ -42,32 +62,158 @@ status_of Finished = 0
 status_of Stuck = 10
 status_of Cut = 11
 
--- the lines of a refusal
-abbrev pub usage_line : ℕ → List ℕ
-usage_line k = codes "akita: usage: word " ++ decimal k ++ 10 ∷ []
+-- the engine by which a command runs its plan, and none for a check
+abbrev pub engine_of : Command → Option Engine
+engine_of (commands.Ring ring) = Some Sleeping
+engine_of (commands.Check file) = None
+engine_of (commands.Run file options) = Some Sleeping
+engine_of (commands.Slow file options) = Some Serial
 
-abbrev pub write_line : List ℕ
-write_line = codes "akita: write\n"
+-- the status of a job: that of its run's verdict
+abbrev pub job_status : Option Engine → Job → ℕ
+job_status None job = 0
+job_status (Some engine) job = status_of (plan_verdict job.plan)
 
--- d is the boundary behind the time of the line that was not written
-abbrev pub write_at_line : ℕ → List ℕ
-write_at_line d = codes "akita: write at " ++ decimal d ++ 10 ∷ []
+-- the lines of its run below a boundary
+abbrev pub job_lines : Option Engine → Job → ℕ → List ℕ
+job_lines None job d = []
+job_lines (Some engine) job d = plan_lines job.plan d
 
-abbrev pub memory_line : List ℕ
-memory_line = codes "akita: memory\n"
+-- all its lines
+abbrev pub all_lines : Option Engine → Job → List ℕ
+all_lines engine job = job_lines engine job (job.plan.until + 1)
 
--- the object got the line, or else its count of faults rose and it got a prefix of the line
-abbrev pub Told : List ℕ → Option (List ℕ) → Option (List ℕ) → ℕ → ℕ → Type 0
-Told line old new before after = Got old new line ⊎ (Rose before after × GotPrefix old new line)
+-- what it writes behind them: the report, or the line of a check
+abbrev pub job_report : Option Engine → Job → List ℕ
+job_report None job = check_line job
+job_report (Some engine) job = plan_report job.plan
 
--- the status of a run that ended with a verdict
+-- all that it writes
+abbrev pub job_written : Option Engine → Job → List ℕ
+job_written engine job = all_lines engine job ++ job_report engine job
+
+-- the steps that it is charged for
+abbrev pub job_steps : Option Engine → Job → ℕ
+job_steps None job = 0
+job_steps (Some engine) job = plan_steps engine job.plan (job.plan.until + 1)
+
+-- the words are a command, and its file means a job
+pub record IsJob (contents : List ℕ → Option (List ℕ)) (words : List (List ℕ)) (command : Command) (job : Job) : Type 0 where
+  pub accepts : Accepts words command
+  pub means : Means contents command (Ok job)
+
+-- the status of a run that ended with a verdict, or of a check
 abbrev pub IsVerdict : ℕ → Type 0
 IsVerdict status = (status ≡ 0) ⊎ ((status ≡ 10) ⊎ (status ≡ 11))
 
+-- a run that ended with this status: it wrote all that its job writes, and was charged for its steps
+pub record HasRun (contents : List ℕ → Option (List ℕ)) (words : List (List ℕ)) (status : ℕ) (old new : Option (List ℕ)) (before after : ℕ) : Type 0 where
+  pub command : Command
+  pub job : Job
+  pub is_job : IsJob contents words command job
+  pub status_is : status ≡ job_status (engine_of command) job
+  pub written : Got old new (job_written (engine_of command) job)
+  pub steps : after ≡ before + job_steps (engine_of command) job
+
 -- a write of a line at the end of a time failed: the object got a prefix of the lines of the run below the boundary behind it
-abbrev pub FailedAt : Ring → Option (List ℕ) → Option (List ℕ) → ℕ → Type 0
-FailedAt ring old new d = (d ≤ ring.until.0 + 1) × GotPrefix old new (lines_upto ring d)
+abbrev pub FailedAt : Option Engine → Job → Option (List ℕ) → Option (List ℕ) → ℕ → Type 0
+FailedAt engine job old new d = (d ≤ job.plan.until + 1) × GotPrefix old new (job_lines engine job d)
 
 -- the write of the report failed: the object got all lines of the run, and a prefix of its report
-abbrev pub FailedBehind : Ring → Option (List ℕ) → Option (List ℕ) → Type 0
-FailedBehind ring old new = (held : Option (List ℕ)) × Got old held (lines_for ring) × GotPrefix held new (report_for ring)
+abbrev pub FailedBehind : Option Engine → Job → Option (List ℕ) → Option (List ℕ) → Type 0
+FailedBehind engine job old new = (held : Option (List ℕ)) × Got old held (all_lines engine job) × GotPrefix held new (job_report engine job)
+
+-- the words are some command, its file means a job, and this is true of both
+abbrev pub SomeJob : (List ℕ → Option (List ℕ)) → List (List ℕ) → (Command → Job → Type 0) → Type 0
+SomeJob contents words fact = (command : Command) × (job : Job) × IsJob contents words command job × fact command job
+
+-- the reading of the command's file failed: the count of faults of its name rose
+abbrev pub ReadFailed : (List ℕ → ℕ) → (List ℕ → ℕ) → Command → Type 0
+ReadFailed before after (commands.Ring ring) = ⊥
+ReadFailed before after (commands.Check file) = Rose (before file) (after file)
+ReadFailed before after (commands.Run file options) = Rose (before file) (after file)
+ReadFailed before after (commands.Slow file options) = Rose (before file) (after file)
+
+-- the line of such a failure
+abbrev pub read_line_for : Command → List ℕ
+read_line_for (commands.Ring ring) = []
+read_line_for (commands.Check file) = read_line file
+read_line_for (commands.Run file options) = read_line file
+read_line_for (commands.Slow file options) = read_line file
+
+-- the line of a broken rule
+abbrev pub rule_line : Rule → List ℕ
+rule_line (Config fault) = config_line fault
+rule_line (Plan breach) = plan_line breach
+
+-- what a refusal of a run of a plan says: a line was not written at a boundary, or no memory was found
+abbrev pub IsFaultOfRun : (ℕ → Type 0) → Type 0 → Refusal → Type 0
+IsFaultOfRun at memory (refusals.WriteAt d) = at d.0
+IsFaultOfRun at memory refusals.OutOfMemory = memory
+IsFaultOfRun at memory refusal = ⊥
+
+-- the same of a job, whose report may not be written either
+abbrev pub IsFaultOfJob : Type 0 → (ℕ → Type 0) → Type 0 → Refusal → Type 0
+IsFaultOfJob behind at memory refusals.Write = behind
+IsFaultOfJob behind at memory (refusals.WriteAt d) = at d.0
+IsFaultOfJob behind at memory refusals.OutOfMemory = memory
+IsFaultOfJob behind at memory refusal = ⊥
+
+-- the same of a reading of a file, which may fail, and whose file may break a rule
+abbrev pub IsFaultOfFile : (List ℕ → Type 0) → (Rule → Type 0) → Refusal → Type 0
+IsFaultOfFile read rule (refusals.Read file) = read file
+IsFaultOfFile read rule (refusals.Config fault) = rule (Config fault)
+IsFaultOfFile read rule (refusals.Plan breach) = rule (Plan breach)
+IsFaultOfFile read rule refusals.OutOfMemory = Unit {0}
+IsFaultOfFile read rule refusal = ⊥
+
+-- the words are some command of which this is true
+abbrev pub SomeFile : List (List ℕ) → (Command → Type 0) → Type 0
+SomeFile words fact = (command : Command) × Accepts words command × fact command
+
+-- the statuses of refusals: of words, of rules and of readings
+abbrev pub IsRefused : ℕ → Type 0
+IsRefused status = (status ≡ 2) ⊎ ((status ≡ 3) ⊎ (status ≡ 5))
+
+-- all statuses
+abbrev pub IsStatus : ℕ → Type 0
+IsStatus status = IsVerdict status ⊎ (IsRefused status ⊎ ((status ≡ 6) ⊎ (status ≡ 8)))
+
+-- why a run of words ends in a refusal, for the contents of files and the counts of faults of files and of an object, before and
+-- after
+abbrev pub IsCause : (List ℕ → Option (List ℕ)) → (List ℕ → ℕ) → (List ℕ → ℕ) → List (List ℕ) → ℕ → ℕ → Option (List ℕ) → Option (List ℕ) → Refusal → Type 0
+IsCause contents first last words before after old new (refusals.Usage k) = RefusedAt words k
+IsCause contents first last words before after old new (refusals.Read file) = SomeFile words (λ command. ReadFailed first last command × (read_line file ≡ read_line_for command))
+IsCause contents first last words before after old new (refusals.Config fault) = SomeFile words (λ command. Means contents command (Err (Config fault)))
+IsCause contents first last words before after old new (refusals.Plan breach) = SomeFile words (λ command. Means contents command (Err (Plan breach)))
+IsCause contents first last words before after old new refusals.Write = Rose before after × SomeJob contents words (λ command job. FailedBehind (engine_of command) job old new)
+IsCause contents first last words before after old new (refusals.WriteAt d) = Rose before after × SomeJob contents words (λ command job. FailedAt (engine_of command) job old new d.0)
+IsCause contents first last words before after old new refusals.OutOfMemory = Unit {0}
+
+-- nothing is written where words, a reading or a rule are refused
+abbrev pub IsUnwritten : Type 0 → Refusal → Type 0
+IsUnwritten same (refusals.Usage k) = same
+IsUnwritten same (refusals.Read file) = same
+IsUnwritten same (refusals.Config fault) = same
+IsUnwritten same (refusals.Plan breach) = same
+IsUnwritten same refusal = Unit {0}
+
+-- and nothing is read where words are
+abbrev pub IsUnread : Type 0 → Refusal → Type 0
+IsUnread same (refusals.Usage k) = same
+IsUnread same refusal = Unit {0}
+
+-- and no part of a report is written where no memory was found
+abbrev pub IsUnreported : Type 0 → Refusal → Type 0
+IsUnreported lines refusals.OutOfMemory = lines
+IsUnreported lines refusal = Unit {0}
+
+-- what a fault of an engine says
+abbrev pub IsFaultOfEngine : (ℕ → Type 0) → Type 0 → RunFault → Type 0
+IsFaultOfEngine at memory (faults.Trace fault) = at fault.upto.0
+IsFaultOfEngine at memory faults.OutOfMemory = memory
+
+-- the refusal that it is
+abbrev pub refusal_of : RunFault → Refusal
+refusal_of (faults.Trace fault) = refusals.WriteAt fault.upto
+refusal_of faults.OutOfMemory = refusals.OutOfMemory

@@ -1,41 +1,140 @@
 -- The words that the program accepts, and where others are refused.
-use Rattle.std.specs.Prelude.{◌≡◌, ℕ, ◌<◌, ◌≤◌, List, [], ◌∷◌, map, take, codes, String, string_bytes, Some, slice_get}
+use Rattle.std.specs.Prelude.{◌≡◌, ◌≢◌, ℕ, ◌+◌, ◌<◌, ◌≤◌, List, [], ◌∷◌, map, take, drop, flat_map, codes, String, string_bytes, Option, Some, None, slice_get}
 use Rattle.std.specs.Fmt.{decimal}
 use Rattle.std.specs.Global.{Global}
+use Rattle.sim_base.specs.declared.time.Time.{Time}
+use Rattle.std.proofs.Common.{suc}
 use Rattle.top_run.specs.declared.command.Ring.{Ring}
+use Rattle.top_run.specs.declared.command.Options.{Options}
+use Rattle.top_run.specs.declared.command.Command.{Command}
+use Rattle.top_run.specs.declared.command.Command.TheVariants as commands
+use Rattle.top_run.specs.declared.refusal.Refusal.{Refusal}
+use Rattle.top_run.specs.declared.refusal.Refusal.TheVariants as refusals
 
 -- the bytes of each word
 abbrev pub spelled : List (String Global) → List (List ℕ)
 spelled words = map string_bytes words
 
--- how a command is written: `ring N UNTIL`
-abbrev pub words_of : Ring → List (List ℕ)
-words_of ring = codes "ring" ∷ decimal ring.relays ∷ decimal ring.until.0 ∷ []
+-- the greatest time that runs, in picoseconds
+abbrev pub latest : ℕ
+latest = 500000000000
 
--- its numbers are in their ranges
+-- the numbers of a ring are in their ranges
 abbrev pub InRange : Ring → Type 0
-InRange ring = (1 ≤ ring.relays) × (ring.relays ≤ 256) × (ring.until.0 ≤ 500000000000)
+InRange ring = (1 ≤ ring.relays) × (ring.relays ≤ 256) × (ring.until.0 ≤ latest)
 
--- the words are those of a command in its ranges
-pub record Accepts (words : List (List ℕ)) (ring : Ring) : Type 0 where
-  pub spelling : words ≡ words_of ring
-  pub range : InRange ring
+-- a word that names a file has a first byte, which is no `-`
+abbrev pub IsFile : List ℕ → Type 0
+IsFile name = (first : ℕ) × (slice_get name 0 ≡ Some first) × (first ≢ 45)
+
+-- one option
+pub data Setting : Type 0 where
+  Until : ℕ → Setting
+
+-- how it is written
+abbrev pub setting_words : Setting → List (List ℕ)
+setting_words (Until t) = codes "--until" ∷ decimal t ∷ []
+
+-- its number is in its range
+abbrev pub IsAllowed : Setting → Type 0
+IsAllowed (Until t) = t ≤ latest
+
+-- nothing was said of it before
+abbrev pub IsFree : Options → Setting → Type 0
+IsFree options (Until t) = options.until ≡ None
+
+-- the options with this one
+abbrev pub with_setting : Options → Setting → Options
+with_setting options (Until t) = record { until = Some (record { 0 = t }) }
+
+-- settings in any order, each of which is made at most once, lead from some options to others
+abbrev pub Lead : Options → List Setting → Options → Type 0
+Lead before [] after = before ≡ after
+Lead before (s ∷ ss) after = IsFree before s × IsAllowed s × Lead (with_setting before s) ss after
+
+-- the words are such settings
+abbrev pub AreSettings : Options → Options → List (List ℕ) → Type 0
+AreSettings before after words = (settings : List Setting) × (words ≡ flat_map setting_words settings) × Lead before settings after
+
+abbrev pub no_options : Options
+no_options = record { until = None }
+
+-- the numbers of `ring N UNTIL`
+abbrev pub AreRing : Ring → List (List ℕ) → Type 0
+AreRing ring words = (words ≡ decimal ring.relays ∷ decimal ring.until.0 ∷ []) × InRange ring
+
+-- a file and nothing behind it
+abbrev pub AreFile : List ℕ → List (List ℕ) → Type 0
+AreFile file words = (words ≡ file ∷ []) × IsFile file
+
+-- a file and options behind it
+abbrev pub AreFileAndOptions : List ℕ → Options → List (List ℕ) → Type 0
+AreFileAndOptions file options words = (rest : List (List ℕ)) × (words ≡ file ∷ rest) × IsFile file × AreSettings no_options options rest
+
+-- the first word of a command
+abbrev pub command_word : Command → List ℕ
+command_word (commands.Ring ring) = codes "ring"
+command_word (commands.Check file) = codes "check"
+command_word (commands.Run file options) = codes "run"
+command_word (commands.Slow file options) = codes "slow"
+
+-- and the words behind it: `ring N UNTIL`, `check FILE`, `run FILE` and options, `slow FILE` and options
+abbrev pub AreBehind : Command → List (List ℕ) → Type 0
+AreBehind (commands.Ring ring) = AreRing ring
+AreBehind (commands.Check file) = AreFile file
+AreBehind (commands.Run file options) = AreFileAndOptions file options
+AreBehind (commands.Slow file options) = AreFileAndOptions file options
+
+-- the words are those of a command
+abbrev pub Accepts : List (List ℕ) → Command → Type 0
+Accepts words command = (rest : List (List ℕ)) × (words ≡ command_word command ∷ rest) × AreBehind command rest
 
 -- some command is written so
 abbrev pub IsAccepted : List (List ℕ) → Type 0
-IsAccepted words = (ring : Ring) × Accepts words ring
+IsAccepted words = (command : Command) × Accepts words command
 
--- an accepted list has the same first k words
-abbrev pub Shares : ℕ → List (List ℕ) → Type 0
-Shares k words = (ring : Ring) × InRange ring × (take k (words_of ring) ≡ take k words)
+-- a list of a sort has the same first k words
+abbrev pub Shares : (List (List ℕ) → Type 0) → ℕ → List (List ℕ) → Type 0
+Shares sort k words = (others : List (List ℕ)) × sort others × (take k others ≡ take k words)
+
+-- k is the least number such that no list of a sort has the same first k words
+pub record IsRefused (sort : List (List ℕ) → Type 0) (words : List (List ℕ)) (k : ℕ) : Type 0 where
+  pub none : Shares sort k words → ⊥
+  pub before : (j : ℕ) → j < k → Shares sort j words
 
 -- k is the least number such that no accepted list has the same first k words
-pub record RefusedAt (words : List (List ℕ)) (k : ℕ) : Type 0 where
-  pub none : Shares k words → ⊥
-  pub before : (j : ℕ) → j < k → Shares j words
+abbrev pub RefusedAt : List (List ℕ) → ℕ → Type 0
+RefusedAt words k = IsRefused IsAccepted words k
+
+-- the words from a place on are refused as a list of a sort; k counts all words
+abbrev pub IsRefusedFrom : (List (List ℕ) → Type 0) → List (List ℕ) → ℕ → ℕ → Type 0
+IsRefusedFrom sort words place k = (j : ℕ) × (k ≡ place + suc j) × IsRefused sort (drop place words) (suc j)
 
 -- the word of this place, from 0 on, is this number in decimal, and the number is in the range
 pub record IsNumberAt (words : List (List ℕ)) (place least most n : ℕ) : Type 0 where
   pub word : slice_get words place ≡ Some (decimal n)
   pub from : least ≤ n
   pub within : n ≤ most
+
+-- what may follow the first word of some command
+abbrev pub IsBehind : List ℕ → List (List ℕ) → Type 0
+IsBehind word words = (command : Command) × (command_word command ≡ word) × AreBehind command words
+
+abbrev pub IsRing : List (List ℕ) → Type 0
+IsRing words = (ring : Ring) × AreRing ring words
+
+abbrev pub IsOneFile : List (List ℕ) → Type 0
+IsOneFile words = (file : List ℕ) × AreFile file words
+
+abbrev pub IsFileAndOptions : List (List ℕ) → Type 0
+IsFileAndOptions words = (file : List ℕ) × (options : Options) × AreFileAndOptions file options words
+
+-- options behind others
+abbrev pub HasOptions : Options → List (List ℕ) → Type 0
+HasOptions before words = (after : Options) × AreSettings before after words
+
+-- the words are refused at a number of which this is true, or no memory was found
+abbrev pub IsUsage : (ℕ → Type 0) → Refusal → Type 0
+IsUsage fact (refusals.Usage k) = fact k
+IsUsage fact refusals.OutOfMemory = Unit {0}
+IsUsage fact refusal = ⊥

@@ -1,7 +1,9 @@
 //! The program's calls: from its words to what it writes and the status that it ends with.
 #![tactic(auto)]
 
+mod carry;
 mod command;
+mod job;
 mod refusal;
 mod run;
 mod status;
@@ -10,6 +12,8 @@ mod tests;
 mod top;
 mod words;
 
-pub use command::Ring;
+pub use command::{Command, FileName, Options, Ring};
+pub use job::Job;
+pub use run::Engine;
 pub use status::Status;
 pub use top::plain;

@@ -1,19 +1,30 @@
-ghost use Rattle.std.specs.Prelude.{◌≡◌, ◌≢◌, ℕ, ◌+◌, ◌≤◌, ◌⊎◌, Err, IfOk, OnOk};
-ghost use Rattle.sim_base.specs.declared.time.Time.{Time};
-ghost use Rattle.sim_io.specs.Sink.{Rose, Got};
-ghost use Rattle.top_run.specs.Words.{InRange};
-ghost use Rattle.top_run.specs.Top.{verdict_for, report_for, lines_for, steps_for, FailedAt};
+ghost use Rattle.std.specs.Prelude.{◌≡◌, ◌+◌, ◌≤◌, ◌⊎◌, IfOk, IfErr, OnOk};
+ghost use Rattle.port_rows.specs.World.{state_of};
+ghost use Rattle.tick_law.specs.SerialLoop.{world_at};
+ghost use Rattle.tick_law.specs.Verdict.{end_at};
+ghost use Rattle.sim_io.specs.Sink.{Rose, Got, GotPrefix};
+ghost use Rattle.top_run.specs.Top.{loop_of, plan_verdict, plan_report, plan_lines, plan_steps, refusal_of, IsFaultOfEngine, IsFaultOfRun};
 
-use crate::command::Ring;
 use crate::refusal::Refusal;
-use phase_engine::{RunFault, run_plan};
-use ring_plan::{link_names, relay_names, ring_plan};
-use sim_base::{Body, Steps};
+use part_kind::{LinkKind, Part};
+use phase_engine::run_plan;
+use run_gear::{Ending, RunFault};
+use serial_loop::run_serial;
+use sim_base::{Body, Name, OutOfMemory, Steps};
 use sim_io::Sink;
 use state_view::report;
 use std::alloc::Global;
 use std::sync::ledger::Ledger;
-use tick_law::Verdict;
+use tick_law::{Plan, Verdict};
+
+/// How a machine is run.
+#[derive(Clone, Copy, Debug, PartialEq, Eq)]
+pub enum Engine {
+    /// Only who is awake is ticked.
+    Sleeping,
+    /// Everybody is ticked at each edge.
+    Serial,
+}
 
 /// What a run shows at its end.
 #[derive(Drop)]
@@ -22,39 +33,81 @@ pub struct Shown {
     pub report: Body,
 }
 
-/// Runs a ring by the sleeping engine, which writes the lines of the run. One step is charged for each actor that is awake at an
-/// edge up to the budget.
-pub fn run_ring<K: Sink, L: Ledger>(
+fn copied_names(alloc: Global, names: &[Name]) -> Result<Vec<Name>, OutOfMemory>
+    ensures { IfOk result (λ v. v.items ≡ names.now) }
+{
+    Ok(Vec::from_slice(alloc, names)?)
+}
+
+/// The refusal that a fault of a run is.
+fn refusal_of(fault: RunFault) -> Refusal
+    ensures { result ≡ refusal_of fault }
+{
+    match fault {
+        RunFault::Trace(fault) => Refusal::WriteAt(fault.upto),
+        RunFault::OutOfMemory => Refusal::OutOfMemory,
+    }
+}
+
+/// Runs a plan by one of the engines, which writes the lines of the run.
+fn run_by<K: Sink, L: Ledger>(
     alloc: Global,
-    ring: Ring,
+    engine: Engine,
+    plan: Plan<Part, LinkKind>,
+    out: &mut K,
+    steps: &mut Steps<L>,
+) -> Result<Ending<Part, LinkKind>, RunFault>
+    ensures world { IfOk result (λ e. state_of e.world ≡ world_at (loop_of plan) (plan.until + 1)) }
+    ensures verdict { IfOk result (λ e. e.verdict ≡ plan_verdict plan) }
+    ensures end { IfOk result (λ e. e.end.0 ≡ end_at (loop_of plan) plan.until) }
+    ensures steps { OnOk result (steps.new ≡ steps.old + plan_steps engine plan (plan.until + 1)) }
+    ensures lines { OnOk result (Got (K.told out.old) (K.told out.new) (plan_lines plan (plan.until + 1))) }
+
+    ensures fault { IfErr result (IsFaultOfEngine
+        (λ d. (d ≤ plan.until + 1) × Rose (K.faults out.old) (K.faults out.new)
+        × GotPrefix (K.told out.old) (K.told out.new) (plan_lines plan d))
+        (out.new ≡ out.old)) }
+
+    ensures never_falls { K.faults out.old ≤ K.faults out.new }
+{
+    match engine {
+        Engine::Sleeping => run_plan(alloc, plan, out, false, steps),
+        Engine::Serial => run_serial(alloc, plan, out, false, steps),
+    }
+}
+
+/// Runs a plan, which writes its lines, and makes the report.
+pub fn show_run<K: Sink, L: Ledger>(
+    alloc: Global,
+    engine: Engine,
+    plan: Plan<Part, LinkKind>,
     out: &mut K,
     steps: &mut Steps<L>,
 ) -> Result<Shown, Refusal>
-    requires { InRange ring }
+    ensures verdict { IfOk result (λ shown. shown.verdict ≡ plan_verdict plan) }
+    ensures report { IfOk result (λ shown. shown.report ≡ plan_report plan) }
+    ensures lines { OnOk result (Got (K.told out.old) (K.told out.new) (plan_lines plan (plan.until + 1))) }
+    ensures steps { OnOk result (steps.new ≡ steps.old + plan_steps engine plan (plan.until + 1)) }
 
-    ensures verdict { IfOk result (λ shown. shown.verdict ≡ verdict_for ring) }
-    ensures report { IfOk result (λ shown. shown.report ≡ report_for ring) }
-    ensures lines { OnOk result (Got (K.told out.old) (K.told out.new) (lines_for ring)) }
-    ensures steps { OnOk result (steps.new ≡ steps.old + steps_for ring) }
-    ensures write_at { (d : Time) → result ≡ Err (Refusal.WriteAt d) → Rose (K.faults out.old) (K.faults out.new) × FailedAt ring (K.told out.old) (K.told out.new) d.0 }
-    ensures memory { result ≡ Err Refusal.OutOfMemory → (out.new ≡ out.old) ⊎ Got (K.told out.old) (K.told out.new) (lines_for ring) }
+    ensures fault { IfErr result (IsFaultOfRun
+        (λ d. (d ≤ plan.until + 1) × Rose (K.faults out.old) (K.faults out.new)
+        × GotPrefix (K.told out.old) (K.told out.new) (plan_lines plan d))
+        ((out.new ≡ out.old) ⊎ Got (K.told out.old) (K.told out.new) (plan_lines plan (plan.until + 1)))) }
+
     ensures never_falls { K.faults out.old ≤ K.faults out.new }
-    ensures no_usage { (k : ℕ) → result ≢ Err (Refusal.Usage k) }
-    ensures no_write { result ≢ Err Refusal.Write }
 {
-    let part_names = relay_names(alloc, ring.relays)?;
-    let link_names = link_names(alloc)?;
-    let plan = ring_plan(alloc, ring.relays, ring.until)?;
-    let ending = match run_plan(alloc, plan, out, false, steps) {
+    let part_names = copied_names(alloc, &plan.part_names)?;
+    let link_names = copied_names(alloc, &plan.link_names)?;
+    let budget = plan.until;
+    let ending = match run_by(alloc, engine, plan, out, steps) {
         Ok(ending) => ending,
-        Err(RunFault::Trace(fault)) => return Err(Refusal::WriteAt(fault.upto)),
-        Err(RunFault::OutOfMemory) => return Err(Refusal::OutOfMemory),
+        Err(fault) => return Err(refusal_of(fault)),
     };
     let report = report(
         alloc,
         &part_names,
         &link_names,
-        ring.until,
+        budget,
         &ending.world,
         ending.verdict,
         ending.end,

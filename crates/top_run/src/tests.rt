@@ -1,8 +1,8 @@
 ghost use Rattle.std.specs.Prelude.{◌≡◌, ◌<◌};
 
 use crate::{Status, plain};
-use sim_base::Steps;
-use sim_io::{MemFiles, MemSink};
+use sim_base::{Body, Steps};
+use sim_io::{MemFile, MemFiles, MemSink};
 use std::alloc::{AllocError, Global};
 use std::marker::Brand;
 use std::sync::ledger::{Blank, Ledger};
@@ -25,11 +25,12 @@ fn strings(alloc: Global, words: &[&str]) -> Result<Vec<String>, AllocError> {
     Ok(list)
 }
 
-/// Runs these words; the writes with these numbers, counted from 1, fail.
+/// Runs these words with these files; the writes with these numbers, counted from 1, fail.
 fn run<L: Ledger>(
     alloc: Global,
     blank: Blank,
     words: &[&str],
+    mut files: MemFiles,
     out_fails: &[u64],
     err_fails: &[u64],
 ) -> Result<Left, AllocError>
@@ -39,7 +40,6 @@ fn run<L: Ledger>(
 {
     let words = strings(alloc, words)?;
     let mut steps: Steps<L> = Steps::open(blank);
-    let mut files = MemFiles::of(Vec::new(alloc), Vec::new(alloc));
     let mut out = MemSink::of(Vec::new(alloc), Vec::from_slice(alloc, out_fails)?);
     let mut err = MemSink::of(Vec::new(alloc), Vec::from_slice(alloc, err_fails)?);
     let status = plain(alloc, &words, &mut files, &mut out, &mut err, &mut steps);
@@ -52,7 +52,120 @@ fn ran(
     out_fails: &[u64],
     err_fails: &[u64],
 ) -> Result<Left, AllocError> {
-    run::<Brand>(alloc, Blank::new(1), words, out_fails, err_fails)
+    let files = MemFiles::of(Vec::new(alloc), Vec::new(alloc));
+    run::<Brand>(alloc, Blank::new(1), words, files, out_fails, err_fails)
+}
+
+/// Runs these words with a file of these bytes, whose name is `f`.
+fn ran_file(alloc: Global, words: &[&str], bytes: &[u8]) -> Result<Left, AllocError> {
+    let mut list = Vec::new(alloc);
+    list.push(MemFile {
+        name: Body::of(Vec::from_slice(alloc, b"f")?),
+        bytes: Body::of(Vec::from_slice(alloc, bytes)?),
+    })?;
+    let files = MemFiles::of(list, Vec::new(alloc));
+    run::<Brand>(alloc, Blank::new(1), words, files, &[], &[])
+}
+
+#[test]
+fn a_file_is_checked_and_run(rt: HostRuntime) -> Result<(), Fail> {
+    let alloc = rt.alloc();
+    let ring3 =
+        "version = 1\nuntil = 20000\npart = [{name = 'r0', kind = 'relay', period = 1000, to = 'r1', start = 6}, {name = 'r1', kind = 'relay', period = 1000, to = 'r2'}, {name = 'r2', kind = 'relay', period = 1000, to = 'r0'}]\nlink = [{name = 'net', kind = 'direct', period = 1000, ports = ['r0.io', 'r1.io', 'r2.io']}]\n";
+    let report =
+        "verdict finished\nend 11000\nbudget 20000\npart r0 relay done sent 2 ended 1\npart r1 relay done sent 2 ended 0\npart r2 relay done sent 2 ended 0\nlink net direct moved 6 pointer 0\n";
+    let cut =
+        "verdict cut\nend 0\nbudget 0\npart r0 relay done sent 1 ended 0\npart r1 relay done sent 0 ended 0\npart r2 relay done sent 0 ended 0\nlink net direct moved 1 pointer 1\n";
+    let rows: [(&[&str], u8, &str, &str); 14] = [
+        (
+            &["check", "f"],
+            0,
+            "ok parts 3 links 1 ports 3 programs 0 until 20000\n",
+            "",
+        ),
+        (&["run", "f"], 0, report, ""),
+        (&["slow", "f"], 0, report, ""),
+        (&["run", "f", "--until", "0"], 11, cut, ""),
+        (&["slow", "f", "--until", "0"], 11, cut, ""),
+        (&["run", "g"], 5, "", "akita: read: g\n"),
+        (&["run"], 2, "", "akita: usage: word 2\n"),
+        (&["run", "-f"], 2, "", "akita: usage: word 2\n"),
+        (&["run", ""], 2, "", "akita: usage: word 2\n"),
+        (&["check", "f", "f"], 2, "", "akita: usage: word 3\n"),
+        (&["run", "f", "--until"], 2, "", "akita: usage: word 4\n"),
+        (
+            &["run", "f", "--until", "500000000001"],
+            2,
+            "",
+            "akita: usage: word 4\n",
+        ),
+        (
+            &["slow", "f", "--until", "7", "--until", "7"],
+            2,
+            "",
+            "akita: usage: word 5\n",
+        ),
+        (&["show", "f"], 2, "", "akita: usage: word 1\n"),
+    ];
+    for (words, status, out, err) in rows {
+        let left = ran_file(alloc, words, ring3.as_bytes())?;
+        assert_eq!(rt; left.status, Some(Status(status)));
+        assert_eq!(rt; left.out.bytes(), out.as_bytes());
+        assert_eq!(rt; left.err.bytes(), err.as_bytes());
+    }
+    Ok(())
+}
+
+#[test]
+fn a_file_that_breaks_a_rule_is_told(rt: HostRuntime) -> Result<(), Fail> {
+    let alloc = rt.alloc();
+    let rows: [(&str, u8, &str, &str); 6] = [
+        (
+            "version = 1",
+            0,
+            "verdict finished\nend 0\nbudget 500000000000\n",
+            "",
+        ),
+        (
+            "version = 2",
+            3,
+            "",
+            "akita: config: out-of-range top version\n",
+        ),
+        ("version", 3, "", "akita: config: not-toml top\n"),
+        (
+            "version = 1\ncore = 1",
+            3,
+            "",
+            "akita: config: unknown-key top\n",
+        ),
+        (
+            "version = 1\npart = [{name = 'r', kind = 'relay', period = 1, to = 'r'}]",
+            3,
+            "",
+            "akita: plan: port-unplugged part 0\n",
+        ),
+        (
+            "version = 1\nlink = [{name = 'a', kind = 'direct', period = 1, ports = ['x.io']}]",
+            3,
+            "",
+            "akita: plan: no-such-name link 0\n",
+        ),
+    ];
+    for (text, status, out, err) in rows {
+        let left = ran_file(alloc, &["run", "f"], text.as_bytes())?;
+        assert_eq!(rt; left.status, Some(Status(status)));
+        assert_eq!(rt; left.out.bytes(), out.as_bytes());
+        assert_eq!(rt; left.err.bytes(), err.as_bytes());
+    }
+    let long: Vec<u8> = vec![in alloc; b'#'; 1_048_577]?;
+    let left = ran_file(alloc, &["check", "f"], &long)?;
+    assert_eq!(rt; left.status, Some(Status(3)));
+    assert_eq!(rt;
+        left.err.bytes(),
+        b"akita: config: too-long top\n".as_slice()
+    );
+    Ok(())
 }
 
 #[test]

@@ -1,19 +1,26 @@
-ghost use Rattle.std.specs.Prelude.{◌≡◌, ◌≢◌, ℕ, ◌+◌, ◌<◌, ◌⊎◌, [], length, is_some, true, Err, IfOk, IfErr, IfSome, OnOk, OnErr};
-ghost use Rattle.sim_io.specs.Sink.{Rose, Got, GotPrefix};
+ghost use Rattle.std.specs.Prelude.{◌≡◌, ◌≢◌, ℕ, ◌<◌, ◌⊎◌, List, [], length, is_some, true, Option, Ok, Err, IfOk, IfErr, IfSome};
+ghost use Rattle.sim_io.specs.Sink.{Rose, Got};
 ghost use Rattle.top_run.specs.Words.{spelled, Accepts, IsAccepted, RefusedAt};
-ghost use Rattle.top_run.specs.declared.command.Ring.{Ring};
-ghost use Rattle.sim_base.specs.declared.time.Time.{Time};
-ghost use Rattle.top_run.specs.Top.{verdict_for, written_for, lines_for, steps_for, status_of, IsVerdict, FailedAt, FailedBehind, Told, usage_line, write_line, write_at_line, memory_line};
+ghost use Rattle.top_run.specs.declared.command.Command.{Command};
+ghost use Rattle.top_run.specs.declared.job.Job.{Job};
+ghost use Rattle.top_run.specs.declared.run.Engine.{Engine};
+ghost use Rattle.top_run.specs.Job.{Rule, Means, IsTold};
+ghost use Rattle.top_run.specs.Refusals.{usage_line, read_line, config_line, plan_line, write_line, write_at_line, memory_line, Told};
+ghost use Rattle.top_run.specs.Top.{engine_of, job_status, all_lines, job_written, HasRun, FailedAt, FailedBehind, ReadFailed, read_line_for, rule_line};
+ghost use Rattle.top_run.specs.Top.{IsVerdict, IsStatus, IsRefused, SomeJob, SomeFile, IsCause, IsUnwritten, IsUnread, IsUnreported};
 
-use crate::refusal::{Refusal, usage_line, write_at_line};
-use crate::run::run_ring;
+use crate::carry::{carry_out, engine_of};
+use crate::command::FileName;
+use crate::job::read_job;
+use crate::refusal::{Refusal, config_line, plan_line, read_line, usage_line, write_at_line};
 use crate::status::Status;
-use crate::words::read_ring;
+use crate::words::read_words;
+use plan_rules::Breach;
 use sim_base::{Steps, Time};
+use sim_config::ConfigFault;
 use sim_io::{Files, Sink};
 use std::alloc::Global;
 use std::sync::ledger::Ledger;
-use tick_law::Verdict;
 
 /// Writes a line of a refusal. A failure is told to nobody.
 fn tell<E: Sink>(err: &mut E, line: &[u8])
@@ -23,15 +30,70 @@ fn tell<E: Sink>(err: &mut E, line: &[u8])
     let _ = err.write(line);
 }
 
-fn tell_usage<E: Sink>(alloc: Global, err: &mut E, word: u32) -> Status
+/// Tells of words that are refused, and answers its status; where no memory is found for the line, that is told instead.
+fn tell_usage<E: Sink>(alloc: Global, err: &mut E, word: usize) -> Status
     ensures either { (result.0 ≡ 2) ⊎ (result.0 ≡ 8) }
-    ensures usage { result.0 ≡ 2 → Told (usage_line word) (E.told err.old) (E.told err.new) (E.faults err.old) (E.faults err.new) }
+    ensures line { result.0 ≡ 2 → Told (usage_line word) (E.told err.old) (E.told err.new) (E.faults err.old) (E.faults err.new) }
     ensures memory { result.0 ≡ 8 → Told memory_line (E.told err.old) (E.told err.new) (E.faults err.old) (E.faults err.new) }
 {
     match usage_line(alloc, word) {
         Ok(line) => {
             tell(err, line.as_bytes());
             Status(2)
+        }
+        Err(_) => {
+            tell(err, b"akita: memory\n");
+            Status(8)
+        }
+    }
+}
+
+/// Tells of a file whose reading failed, and answers its status; where no memory is found for the line, that is told instead.
+fn tell_read<E: Sink>(alloc: Global, err: &mut E, file: &FileName) -> Status
+    ensures either { (result.0 ≡ 5) ⊎ (result.0 ≡ 8) }
+    ensures line { result.0 ≡ 5 → Told (read_line file.now) (E.told err.old) (E.told err.new) (E.faults err.old) (E.faults err.new) }
+    ensures memory { result.0 ≡ 8 → Told memory_line (E.told err.old) (E.told err.new) (E.faults err.old) (E.faults err.new) }
+{
+    match read_line(alloc, file) {
+        Ok(line) => {
+            tell(err, line.as_bytes());
+            Status(5)
+        }
+        Err(_) => {
+            tell(err, b"akita: memory\n");
+            Status(8)
+        }
+    }
+}
+
+/// Tells of a broken rule of configurations, and answers its status; where no memory is found for the line, that is told instead.
+fn tell_config<E: Sink>(alloc: Global, err: &mut E, fault: ConfigFault) -> Status
+    ensures either { (result.0 ≡ 3) ⊎ (result.0 ≡ 8) }
+    ensures line { result.0 ≡ 3 → Told (config_line fault) (E.told err.old) (E.told err.new) (E.faults err.old) (E.faults err.new) }
+    ensures memory { result.0 ≡ 8 → Told memory_line (E.told err.old) (E.told err.new) (E.faults err.old) (E.faults err.new) }
+{
+    match config_line(alloc, fault) {
+        Ok(line) => {
+            tell(err, line.as_bytes());
+            Status(3)
+        }
+        Err(_) => {
+            tell(err, b"akita: memory\n");
+            Status(8)
+        }
+    }
+}
+
+/// Tells of a broken rule of plans, and answers its status; where no memory is found for the line, that is told instead.
+fn tell_plan<E: Sink>(alloc: Global, err: &mut E, breach: Breach) -> Status
+    ensures either { (result.0 ≡ 3) ⊎ (result.0 ≡ 8) }
+    ensures line { result.0 ≡ 3 → Told (plan_line breach) (E.told err.old) (E.told err.new) (E.faults err.old) (E.faults err.new) }
+    ensures memory { result.0 ≡ 8 → Told memory_line (E.told err.old) (E.told err.new) (E.faults err.old) (E.faults err.new) }
+{
+    match plan_line(alloc, breach) {
+        Ok(line) => {
+            tell(err, line.as_bytes());
+            Status(3)
         }
         Err(_) => {
             tell(err, b"akita: memory\n");
@@ -47,39 +109,38 @@ fn tell_write_at<E: Sink>(err: &mut E, upto: Time)
     tell(err, write_at_line(upto).as_slice());
 }
 
-fn write_report<K: Sink>(out: &mut K, report: &[u8]) -> Result<(), Refusal>
-    requires some { 0 < length report.now }
-    ensures ok { OnOk result (Got (K.told out.old) (K.told out.new) report.now) }
-    ensures fault { OnErr result (Rose (K.faults out.old) (K.faults out.new) × GotPrefix (K.told out.old) (K.told out.new) report.now) }
-    ensures write { IfErr result (λ refusal. refusal ≡ Refusal.Write) }
-{
-    out.write(report).map_err(|_| Refusal::Write)
-}
-
-fn run_words<K: Sink, L: Ledger>(
+fn run_words<F: Files, K: Sink, L: Ledger>(
     alloc: Global,
     words: &[String],
+    files: &mut F,
     out: &mut K,
     steps: &mut Steps<L>,
-) -> Result<Verdict, Refusal>
-    ensures ran { IfOk result (λ verdict. (ring : Ring) × Accepts (spelled words.now) ring × (verdict ≡ verdict_for ring) × Got (K.told out.old) (K.told out.new) (written_for ring) × (steps.new ≡ steps.old + steps_for ring)) }
-    ensures usage { (k : ℕ) → result ≡ Err (Refusal.Usage k) → RefusedAt (spelled words.now) k × (out.new ≡ out.old) }
-    ensures write { result ≡ Err Refusal.Write → (ring : Ring) × Accepts (spelled words.now) ring × Rose (K.faults out.old) (K.faults out.new) × FailedBehind ring (K.told out.old) (K.told out.new) }
-    ensures write_at { (d : Time) → result ≡ Err (Refusal.WriteAt d) → (ring : Ring) × Accepts (spelled words.now) ring × Rose (K.faults out.old) (K.faults out.new) × FailedAt ring (K.told out.old) (K.told out.new) d.0 }
-    ensures memory { result ≡ Err Refusal.OutOfMemory → (out.new ≡ out.old) ⊎ ((ring : Ring) × Accepts (spelled words.now) ring × Got (K.told out.old) (K.told out.new) (lines_for ring)) }
+) -> Result<Status, Refusal>
+    ensures ran { IfOk result (λ s. HasRun (F.contents files.old) (spelled words.now) s.0
+        (K.told out.old) (K.told out.new) steps.old steps.new) }
+
+    ensures fault { IfErr result (IsCause (F.contents files.old) (F.faults files.old) (F.faults files.new)
+        (spelled words.now) (K.faults out.old) (K.faults out.new) (K.told out.old) (K.told out.new)) }
+    ensures unwritten { IfErr result (IsUnwritten (out.new ≡ out.old)) }
+    ensures unread { IfErr result (IsUnread (files.new ≡ files.old)) }
+    ensures unreported { IfErr result (IsUnreported ((out.new ≡ out.old)
+        ⊎ SomeJob (F.contents files.old) (spelled words.now) (λ command job.
+        Got (K.told out.old) (K.told out.new) (all_lines (engine_of command) job)))) }
+
+    ensures contents { (name : List ℕ) → F.contents files.new name ≡ F.contents files.old name }
 {
-    let ring = read_ring(alloc, words)?;
-    let shown = run_ring(alloc, ring, out, steps)?;
-    write_report(out, shown.report.items())?;
-    Ok(shown.verdict)
+    let command = read_words(alloc, words)?;
+    let job = read_job(alloc, &command, files)?;
+    carry_out(alloc, engine_of(&command), job, out, steps)
 }
 
 /// Runs the program on its words, and answers the status that it ends with. It waits for nobody.
 ///
-/// The lines of the run and then its report go to `out`. Every refusal is one line on `err`: `akita: usage: word K` names the first
-/// word that no accepted list of words has there, `akita: write at D` a failed write of a line with the boundary D behind its time,
-/// `akita: write` a failed write of the report, `akita: memory` want of memory. A failure of `err` changes no status. No file is
-/// read.
+/// The words are looked at first, then the file that they name is read, then its rules are tried. The lines of the run and then its
+/// report go to `out`. Every refusal is one line on `err`: `akita: usage: word K` names the first word that no accepted list of
+/// words has there, `akita: read: FILE` a file whose reading failed, `akita: config: RULE TABLE KEY` and `akita: plan: RULE TABLE`
+/// the first rule that a file breaks, `akita: write at D` a failed write of a line with the boundary D behind its time,
+/// `akita: write` a failed write of the report, `akita: memory` want of memory. A failure of `err` changes no status.
 pub fn plain<F: Files, K: Sink, E: Sink, L: Ledger>(
     alloc: Global,
     words: &[String],
@@ -89,26 +150,58 @@ pub fn plain<F: Files, K: Sink, E: Sink, L: Ledger>(
     steps: &mut Steps<L>,
 ) -> Option<Status>
     ensures some { is_some result ≡ true }
-    ensures statuses { IfSome result (λ s. IsVerdict s.0 ⊎ ((s.0 ≡ 2) ⊎ ((s.0 ≡ 6) ⊎ (s.0 ≡ 8)))) }
+    ensures statuses { IfSome result (λ s. IsStatus s.0) }
 
-    ensures ran { IfSome result (λ s. IsVerdict s.0 → (ring : Ring) × Accepts (spelled words.now) ring × (s.0 ≡ status_of (verdict_for ring)) × Got (K.told out.old) (K.told out.new) (written_for ring) × (steps.new ≡ steps.old + steps_for ring)) }
+    ensures ran { IfSome result (λ s. IsVerdict s.0
+        → HasRun (F.contents files.old) (spelled words.now) s.0 (K.told out.old) (K.told out.new) steps.old steps.new) }
     ensures silent { IfSome result (λ s. IsVerdict s.0 → err.new ≡ err.old) }
+    ensures complete { (command : Command) (job : Job) → Accepts (spelled words.now) command
+        → IsTold (F.contents files.old) command (Ok job)
+        → (Rose (K.faults out.old) (K.faults out.new) → ⊥)
+        → (ReadFailed (F.faults files.old) (F.faults files.new) command → ⊥)
+        → IfSome result (λ s. (s.0 ≡ 8) ⊎ ((s.0 ≡ job_status (engine_of command) job)
+        × Got (K.told out.old) (K.told out.new) (job_written (engine_of command) job))) }
 
-    ensures usage { IfSome result (λ s. s.0 ≡ 2 → (k : ℕ) × RefusedAt (spelled words.now) k × Told (usage_line k) (E.told err.old) (E.told err.new) (E.faults err.old) (E.faults err.new)) }
+    ensures usage { IfSome result (λ s. s.0 ≡ 2 → (k : ℕ) × RefusedAt (spelled words.now) k
+        × Told (usage_line k) (E.told err.old) (E.told err.new) (E.faults err.old) (E.faults err.new)) }
     ensures refused { (IsAccepted (spelled words.now) → ⊥) → IfSome result (λ s. (s.0 ≡ 2) ⊎ (s.0 ≡ 8)) }
-    ensures complete { (ring : Ring) → Accepts (spelled words.now) ring → (Rose (K.faults out.old) (K.faults out.new) → ⊥) → IfSome result (λ s. (s.0 ≡ 8) ⊎ ((s.0 ≡ status_of (verdict_for ring)) × Got (K.told out.old) (K.told out.new) (written_for ring))) }
     ensures accepted { IsAccepted (spelled words.now) → IfSome result (λ s. s.0 ≢ 2) }
-    ensures unwritten { IfSome result (λ s. s.0 ≡ 2 → out.new ≡ out.old) }
 
-    ensures write { IfSome result (λ s. s.0 ≡ 6 → (ring : Ring) × Accepts (spelled words.now) ring × Rose (K.faults out.old) (K.faults out.new) × ((FailedBehind ring (K.told out.old) (K.told out.new) × Told write_line (E.told err.old) (E.told err.new) (E.faults err.old) (E.faults err.new)) ⊎ ((d : ℕ) × FailedAt ring (K.told out.old) (K.told out.new) d × Told (write_at_line d) (E.told err.old) (E.told err.new) (E.faults err.old) (E.faults err.new)))) }
+    ensures read { IfSome result (λ s. s.0 ≡ 5 → SomeFile (spelled words.now) (λ command.
+        ReadFailed (F.faults files.old) (F.faults files.new) command
+        × Told (read_line_for command) (E.told err.old) (E.told err.new) (E.faults err.old) (E.faults err.new))) }
+
+    ensures rule { IfSome result (λ s. s.0 ≡ 3 → (rule : Rule) × SomeFile (spelled words.now) (λ command.
+        Means (F.contents files.old) command (Err rule))
+        × Told (rule_line rule) (E.told err.old) (E.told err.new) (E.faults err.old) (E.faults err.new)) }
+    ensures broken { (command : Command) (rule : Rule) → Accepts (spelled words.now) command
+        → IsTold (F.contents files.old) command (Err rule)
+        → (ReadFailed (F.faults files.old) (F.faults files.new) command → ⊥)
+        → IfSome result (λ s. (s.0 ≡ 3) ⊎ (s.0 ≡ 8)) }
+    ensures unwritten { IfSome result (λ s. IsRefused s.0 → out.new ≡ out.old) }
+
+    ensures write { IfSome result (λ s. s.0 ≡ 6 → Rose (K.faults out.old) (K.faults out.new)
+        × ((SomeJob (F.contents files.old) (spelled words.now) (λ command job.
+        FailedBehind (engine_of command) job (K.told out.old) (K.told out.new))
+        × Told write_line (E.told err.old) (E.told err.new) (E.faults err.old) (E.faults err.new))
+        ⊎ ((d : ℕ) × SomeJob (F.contents files.old) (spelled words.now) (λ command job.
+        FailedAt (engine_of command) job (K.told out.old) (K.told out.new) d)
+        × Told (write_at_line d) (E.told err.old) (E.told err.new) (E.faults err.old) (E.faults err.new)))) }
     ensures memory { IfSome result (λ s. s.0 ≡ 8 → Told memory_line (E.told err.old) (E.told err.new) (E.faults err.old) (E.faults err.new)) }
-    ensures unreported { IfSome result (λ s. s.0 ≡ 8 → (out.new ≡ out.old) ⊎ ((ring : Ring) × Accepts (spelled words.now) ring × Got (K.told out.old) (K.told out.new) (lines_for ring))) }
-    ensures lineless { (ring : Ring) → lines_for ring ≡ [] }
-    ensures files { files.new ≡ files.old }
+    ensures unreported { IfSome result (λ s. s.0 ≡ 8 → (out.new ≡ out.old)
+        ⊎ SomeJob (F.contents files.old) (spelled words.now) (λ command job.
+        Got (K.told out.old) (K.told out.new) (all_lines (engine_of command) job))) }
+    ensures lineless { (engine : Option Engine) (job : Job) → all_lines engine job ≡ [] }
+
+    ensures unread { IfSome result (λ s. s.0 ≡ 2 → files.new ≡ files.old) }
+    ensures contents { (name : List ℕ) → F.contents files.new name ≡ F.contents files.old name }
 {
-    let status = match run_words(alloc, words, out, steps) {
-        Ok(verdict) => Status::of(verdict),
+    let status = match run_words(alloc, words, files, out, steps) {
+        Ok(status) => status,
         Err(Refusal::Usage(word)) => tell_usage(alloc, err, word),
+        Err(Refusal::Read(file)) => tell_read(alloc, err, &file),
+        Err(Refusal::Config(fault)) => tell_config(alloc, err, fault),
+        Err(Refusal::Plan(breach)) => tell_plan(alloc, err, breach),
         Err(Refusal::WriteAt(upto)) => {
             tell_write_at(err, upto);
             Status(6)

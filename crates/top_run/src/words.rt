@@ -1,12 +1,15 @@
-ghost use Rattle.std.specs.Prelude.{◌≡◌, ◌≢◌, ℕ, ◌≤◌, ◌<◌, ◌^◌, Some, slice_get, IsTrue, ◌↔◌, IfOk, IfSome};
+ghost use Rattle.std.specs.Prelude.{◌≡◌, ◌≢◌, ℕ, ◌+◌, ◌≤◌, ◌<◌, ◌^◌, List, [], length, drop, codes, Some, None, slice_get, IsTrue, ◌↔◌, IfOk, IfErr, IfSome, OnOk};
 ghost use Rattle.std.specs.Fmt.{decimal};
-ghost use Rattle.sim_base.specs.declared.time.Time.{Time};
-ghost use Rattle.top_run.specs.Words.{spelled, Accepts, RefusedAt, IsNumberAt};
+ghost use Rattle.top_run.specs.Words.{spelled, IsFile, AreRing, AreFile, AreFileAndOptions, AreSettings, Accepts};
+ghost use Rattle.top_run.specs.Words.{IsRing, IsOneFile, IsFileAndOptions, HasOptions, RefusedAt, IsRefusedFrom, IsNumberAt, IsUsage};
 
-use crate::command::Ring;
+use crate::command::{Command, FileName, Options, Ring};
 use crate::refusal::Refusal;
 use sim_base::{OutOfMemory, Time};
 use std::alloc::Global;
+
+/// The greatest time that a word may ask for, in picoseconds.
+const LATEST: u64 = 500_000_000_000;
 
 /// The only number that a word may be.
 fn parsed(word: &str) -> Option<u64>
@@ -72,28 +75,167 @@ fn is_word(words: &[String], place: usize, text: &[u8]) -> bool
     }
 }
 
-/// The ring that the words ask for. Words that are refused are named by the least number K such that no accepted list has the
-/// same first K words.
-pub fn read_ring(alloc: Global, words: &[String]) -> Result<Ring, Refusal>
-    ensures accepted { IfOk result (λ ring. Accepts (spelled words.now) ring) }
-    ensures refused { (k : ℕ) → result ≡ Err (Refusal.Usage k) → RefusedAt (spelled words.now) k }
-    ensures not_write { result ≢ Err Refusal.Write }
-    ensures not_write_at { (d : Time) → result ≢ Err (Refusal.WriteAt d) }
+/// Whether a word names a file: it has a first byte, and that is no `-`.
+fn is_file(word: &str) -> bool
+    ensures { IsTrue result ↔ IsFile word.now }
 {
-    if !is_word(words, 0, b"ring") {
-        return Err(Refusal::Usage(1));
+    match word.as_bytes().first() {
+        Some(first) => *first != b'-',
+        None => false,
     }
-    let Some(relays) = number_at(alloc, words, 1, 1, 256)? else {
-        return Err(Refusal::Usage(2));
-    };
-    let Some(until) = number_at(alloc, words, 2, 0, 500000000000)? else {
-        return Err(Refusal::Usage(3));
-    };
-    if words.len() > 3 {
-        return Err(Refusal::Usage(4));
+}
+
+/// The number of this place, or a refusal from there on.
+fn need_number(
+    alloc: Global,
+    words: &[String],
+    place: usize,
+    least: u64,
+    most: u64,
+) -> Result<u64, Refusal>
+    requires near { place ≤ length words.now }
+
+    ensures some { IfOk result (λ n. IsNumberAt (spelled words.now) place least most n) }
+    ensures here { OnOk result (place < length words.now) }
+    ensures none { IfErr result (IsUsage (λ k. (k ≡ place + 1)
+        × ((n : ℕ) → IsNumberAt (spelled words.now) place least most n → ⊥))) }
+{
+    match number_at(alloc, words, place, least, most)? {
+        Some(n) => Ok(n),
+        None => Err(Refusal::Usage(place + 1)),
     }
+}
+
+/// The file of this place, or a refusal from there on.
+fn need_file(alloc: Global, words: &[String], place: usize) -> Result<FileName, Refusal>
+    requires near { place ≤ length words.now }
+
+    ensures some { IfOk result (λ file. (slice_get (spelled words.now) place ≡ Some file) × IsFile file) }
+    ensures here { OnOk result (place < length words.now) }
+    ensures none { IfErr result (IsUsage (λ k. (k ≡ place + 1)
+        × ((file : List ℕ) → slice_get (spelled words.now) place ≡ Some file → IsFile file → ⊥))) }
+{
+    match words.get(place) {
+        Some(word) if is_file(word.as_str()) => Ok(FileName::of(alloc, word.as_str())?),
+        _ => Err(Refusal::Usage(place + 1)),
+    }
+}
+
+/// No word stands at this place or behind it.
+fn need_end(words: &[String], place: usize) -> Result<(), Refusal>
+    requires near { place ≤ length words.now }
+
+    ensures end { OnOk result (drop place (spelled words.now) ≡ []) }
+    ensures more { IfErr result (IsUsage (λ k. (k ≡ place + 1) × (place < length words.now))) }
+{
+    if words.len() > place {
+        return Err(Refusal::Usage(place + 1));
+    }
+    Ok(())
+}
+
+/// The ring that the words behind the first ask for.
+fn read_ring(alloc: Global, words: &[String]) -> Result<Ring, Refusal>
+    requires some { 0 < length words.now }
+
+    ensures accepted { IfOk result (λ ring. AreRing ring (drop 1 (spelled words.now))) }
+    ensures refused { IfErr result (IsUsage (IsRefusedFrom IsRing (spelled words.now) 1)) }
+{
+    let relays = need_number(alloc, words, 1, 1, 256)?;
+    let until = need_number(alloc, words, 2, 0, LATEST)?;
+    need_end(words, 3)?;
     Ok(Ring {
         relays: relays as u32,
         until: Time(until),
     })
+}
+
+/// The one file that the words behind the first name.
+fn read_check(alloc: Global, words: &[String]) -> Result<FileName, Refusal>
+    requires some { 0 < length words.now }
+
+    ensures accepted { IfOk result (λ file. AreFile file (drop 1 (spelled words.now))) }
+    ensures refused { IfErr result (IsUsage (IsRefusedFrom IsOneFile (spelled words.now) 1)) }
+{
+    let file = need_file(alloc, words, 1)?;
+    need_end(words, 2)?;
+    Ok(file)
+}
+
+/// Whether the word of this place begins an option that is free.
+fn is_free_until(words: &[String], place: usize, options: Options) -> bool
+    ensures { IsTrue result ↔ ((slice_get (spelled words.now) place ≡ Some (codes "--until")) × (options.until ≡ None)) }
+{
+    is_word(words, place, b"--until") && options.until.is_none()
+}
+
+/// The options that the words from a place on ask for beside those that were set.
+fn read_options(
+    alloc: Global,
+    words: &[String],
+    place: usize,
+    options: Options,
+) -> Result<Options, Refusal>
+    requires near { place ≤ length words.now }
+
+    ensures accepted { IfOk result (λ after. AreSettings options after (drop place (spelled words.now))) }
+    ensures refused { IfErr result (IsUsage (IsRefusedFrom (HasOptions options) (spelled words.now) place)) }
+{
+    if words.len() <= place {
+        return Ok(options);
+    }
+    if is_free_until(words, place, options) {
+        let until = need_number(alloc, words, place + 1, 0, LATEST)?;
+        return read_options(
+            alloc,
+            words,
+            place + 2,
+            Options {
+                until: Some(Time(until)),
+            },
+        );
+    }
+    Err(Refusal::Usage(place + 1))
+}
+
+/// A file, and what a run of it is to do.
+#[derive(Drop)]
+struct FileRun {
+    file: FileName,
+    options: Options,
+}
+
+/// The file and the options that the words behind the first name.
+fn read_run(alloc: Global, words: &[String]) -> Result<FileRun, Refusal>
+    requires some { 0 < length words.now }
+
+    ensures accepted { IfOk result (λ run. AreFileAndOptions run.file run.options (drop 1 (spelled words.now))) }
+    ensures refused { IfErr result (IsUsage (IsRefusedFrom IsFileAndOptions (spelled words.now) 1)) }
+{
+    let file = need_file(alloc, words, 1)?;
+    let options = read_options(alloc, words, 2, Options { until: None })?;
+    Ok(FileRun { file, options })
+}
+
+/// The command that the words ask for. Words that are refused are named by the least number K such that no accepted list has the
+/// same first K words.
+pub fn read_words(alloc: Global, words: &[String]) -> Result<Command, Refusal>
+    ensures accepted { IfOk result (λ command. Accepts (spelled words.now) command) }
+    ensures refused { IfErr result (IsUsage (RefusedAt (spelled words.now))) }
+{
+    if is_word(words, 0, b"ring") {
+        return Ok(Command::Ring(read_ring(alloc, words)?));
+    }
+    if is_word(words, 0, b"check") {
+        return Ok(Command::Check(read_check(alloc, words)?));
+    }
+    if is_word(words, 0, b"run") {
+        let FileRun { file, options } = read_run(alloc, words)?;
+        return Ok(Command::Run(file, options));
+    }
+    if is_word(words, 0, b"slow") {
+        let FileRun { file, options } = read_run(alloc, words)?;
+        return Ok(Command::Slow(file, options));
+    }
+    Err(Refusal::Usage(1))
 }

@@ -1,5 +1,5 @@
 use Rattle.std.proofs.Common.{◌≡◌, ◌∙◌, subst}
-use Rattle.top_run.specs.Top.{Told, write_at_line}
+use Rattle.top_run.specs.Refusals.{Told, write_at_line}
 use Rattle.top_run.proofs.top.tell_write_at.Goals as goal
 
 pub returns : goal.returns

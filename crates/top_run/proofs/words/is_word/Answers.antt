@@ -2,7 +2,7 @@ use Rattle.std.proofs.Common.{rules, ◌≡◌, Some, None, sym, ap, ◌∙◌, 
 use Rattle.std.proofs.lemmas.Option.{slice_get-map}
 use Rattle.std.specs.Prelude.{slice_get}
 use Rattle.top_run.specs.Words.{spelled}
-use Rattle.top_run.proofs.Refusals.{got_some, got_none}
+use Rattle.top_run.proofs.WordRefusals.{got_some, got_none}
 use Rattle.top_run.proofs.words.is_word.Goals as goal
 
 pub returns-in-Some : goal.returns-in-Some
