@@ -22,25 +22,25 @@ pub record TasksView : Type 0 where
 abbrev pub no_tasks : TasksView
 no_tasks = record { waiting = []; begun = 0; ended = 0; sum = 0; greatest = 0 }
 
--- a message that asks for an answer
-abbrev pub is_request : MsgKind → Bool
-is_request Read = true
-is_request Write = true
-is_request Flush = true
-is_request ReadRsp = false
-is_request WriteRsp = false
-is_request FlushRsp = false
-is_request Token = false
+-- a message whose sending begins a task: it asks for an answer
+abbrev pub begins_task : MsgKind → Bool
+begins_task Read = true
+begins_task Write = true
+begins_task Flush = true
+begins_task ReadRsp = false
+begins_task WriteRsp = false
+begins_task FlushRsp = false
+begins_task Token = false
 
--- a message that answers one
-abbrev pub is_answer : MsgKind → Bool
-is_answer ReadRsp = true
-is_answer WriteRsp = true
-is_answer FlushRsp = true
-is_answer Read = false
-is_answer Write = false
-is_answer Flush = false
-is_answer Token = false
+-- a message whose taking ends one: it answers
+abbrev pub ends_task : MsgKind → Bool
+ends_task ReadRsp = true
+ends_task WriteRsp = true
+ends_task FlushRsp = true
+ends_task Read = false
+ends_task Write = false
+ends_task Flush = false
+ends_task Token = false
 
 -- one more, up to the greatest number of 64 bits
 abbrev pub one_more : ℕ → ℕ
@@ -48,7 +48,7 @@ one_more n = min (n + 1) (2 ^ 64 - 1)
 
 -- a request begins a task where fewer than 64 of the part's tasks are open
 abbrev pub sent_at : ℕ → Msg → TasksView → TasksView
-sent_at t msg tasks = if is_request msg.kind && nat_lt (length tasks.waiting) 64 then record tasks { waiting = tasks.waiting ++ record { id = msg.id; at = record { 0 = t } } ∷ []; begun = one_more tasks.begun } else tasks
+sent_at t msg tasks = if begins_task msg.kind && nat_lt (length tasks.waiting) 64 then record tasks { waiting = tasks.waiting ++ record { id = msg.id; at = record { 0 = t } } ∷ []; begun = one_more tasks.begun } else tasks
 
 -- a task of this id
 abbrev pub has_id : MsgId → OpenTask → Bool
@@ -69,7 +69,7 @@ ended_at t (Some k) tasks = ended_with k (t - sent_time tasks.waiting k) tasks
 
 -- an answer ends the earliest open task of its id
 abbrev pub taken_at : ℕ → Msg → TasksView → TasksView
-taken_at t msg tasks = if is_answer msg.kind then ended_at t (position (has_id msg.id) tasks.waiting) tasks else tasks
+taken_at t msg tasks = if ends_task msg.kind then ended_at t (position (has_id msg.id) tasks.waiting) tasks else tasks
 
 -- what a part did at a time
 abbrev pub after_what : ℕ → What → TasksView → TasksView

@@ -1,6 +1,6 @@
 ghost use Rattle.std.specs.Prelude.{◌≡◌, ◌<◌, length, IfSome};
 ghost use Rattle.std.specs.List.{position};
-ghost use Rattle.task_stats.specs.Tasks.{no_tasks, is_request, is_answer, has_id, sent_at, ended_with, taken_at, after_what};
+ghost use Rattle.task_stats.specs.Tasks.{no_tasks, begins_task, ends_task, has_id, sent_at, ended_with, taken_at, after_what};
 
 use arrayvec::ArrayVec;
 use port_msg::{Msg, MsgId, MsgKind, What};
@@ -47,9 +47,9 @@ impl Model for Tasks {
     ghost view = { λ r. record { waiting = r.waiting.items; begun = r.begun; ended = r.ended; sum = r.sum; greatest = r.greatest } };
 }
 
-/// Whether a message of this kind asks for an answer.
-fn is_request(kind: MsgKind) -> bool
-    ensures { result ≡ is_request kind }
+/// Whether the sending of a message of this kind begins a task.
+fn begins_task(kind: MsgKind) -> bool
+    ensures { result ≡ begins_task kind }
 {
     match kind {
         MsgKind::Read | MsgKind::Write | MsgKind::Flush => true,
@@ -58,9 +58,9 @@ fn is_request(kind: MsgKind) -> bool
     }
 }
 
-/// Whether a message of this kind answers one.
-fn is_answer(kind: MsgKind) -> bool
-    ensures { result ≡ is_answer kind }
+/// Whether the taking of a message of this kind ends one.
+fn ends_task(kind: MsgKind) -> bool
+    ensures { result ≡ ends_task kind }
 {
     match kind {
         MsgKind::ReadRsp | MsgKind::WriteRsp | MsgKind::FlushRsp => true,
@@ -100,7 +100,7 @@ impl Tasks {
     fn send(&mut self, at: Time, msg: &Msg)
         ensures { self.new ≡ sent_at at.0 msg.now self.old }
     {
-        if !is_request(msg.kind) {
+        if !begins_task(msg.kind) {
             return;
         }
         let task = OpenTask { id: msg.id, at };
@@ -124,7 +124,7 @@ impl Tasks {
     fn take(&mut self, at: Time, msg: &Msg)
         ensures { self.new ≡ taken_at at.0 msg.now self.old }
     {
-        if !is_answer(msg.kind) {
+        if !ends_task(msg.kind) {
             return;
         }
         let Some(place) = place_of(self.waiting.as_slice(), msg.id) else {
