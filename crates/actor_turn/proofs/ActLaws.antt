@@ -97,18 +97,18 @@ module _ {S : Type 0} where
       }
 
   -- at an edge the actor has stepped
-  pub acted_edge : (m : Machine S) (mine : SideGear) (own : List ℕ) (i t p : ℕ) (s s' : S) (old : ActState S) (begun : RecView) (rows : RowsView) (recs : RecView) (steps : ℕ) (flag : Bool) → CanAct m mine i t old → begun ≡ record old.recs { at = t; actor = mine.first + i } → own ≡ own_of mine.wiring i → s ≡ get_or old.actors i s → p ≡ m.period s → t % p ≡ 0 →
-      let out = m.step s (gather old.rows.ports own) (t / p) in
+  pub acted_edge : (m : Machine S) (mine : SideGear) (own : List ℕ) (i t p n : ℕ) (s s' : S) (old : ActState S) (begun : RecView) (rows : RowsView) (recs : RecView) (steps : ℕ) (flag : Bool) → CanAct m mine i t old → begun ≡ record old.recs { at = t; actor = mine.first + i } → own ≡ own_of mine.wiring i → s ≡ get_or old.actors i s → p ≡ m.period s → t % p ≡ 0 → n ≡ t / p →
+      let out = m.step s (gather old.rows.ports own) n in
       length out.ports ≡ length own → s' ≡ out.state → rows ≡ record old.rows { ports = scatter old.rows.ports own out.ports } → recs ≡ appended_all begun out.records → flag ≡ out.flag → steps ≡ old.steps + 1 →
       HasActed m mine i t old (record old { actors = slice_set old.actors i s'; rows = rows; recs = recs; steps = steps }) flag
-  acted_edge m mine own i t p s s' old begun rows recs steps flag can starts read is per zero long state rows_are recs_are flag_are steps_are =
+  acted_edge m mine own i t p n s s' old begun rows recs steps flag can starts read is per zero number long state rows_are recs_are flag_are steps_are =
       let states = old.actors in
       let ports = old.rows.ports in
       let row = own_of mine.wiring i in
       let at : slice_get (alls states) i ≡ Some (Some s) = alls_forth states i s (read_at states i s can.here is) in
       let edge : has_edge m t s ≡ true = ap (λ x. t % x == 0) (sym per) ∙ eq-eqb (t % p) 0 zero in
       let out = m.step s (gather ports row) (t / m.period s) in
-      let cycle : m.step s (gather ports own) (t / p) ≡ out = ap (λ x. m.step s (gather ports own) (t / x)) per ∙ ap (λ l. m.step s (gather ports l) (t / m.period s)) read in
+      let cycle : m.step s (gather ports own) n ≡ out = ap (m.step s (gather ports own)) (number ∙ ap (λ x. t / x) per) ∙ ap (λ l. m.step s (gather ports l) (t / m.period s)) read in
       let gave = made m row i t states ports s at edge in
       let full : length out.ports ≡ length row = sym (ap length (ports_is _ _ cycle)) ∙ long ∙ ap length read in
       record {

@@ -1,4 +1,5 @@
 pub mod WakingLaws
+pub mod BeatLaws
 pub mod ActLaws
 pub mod WithinLaws
 pub mod TurnLaws

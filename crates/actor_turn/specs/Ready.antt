@@ -1,7 +1,7 @@
 -- A gear that fits its world.
-use Rattle.std.specs.Prelude.{◌≡◌, ℕ, ◌<◌, [], length, map, slice_index_or}
-use Rattle.tick_law.specs.Wires.{own_of}
+use Rattle.std.specs.Prelude.{◌≡◌, ℕ, length, map}
 use Rattle.port_row.specs.Row.{face_of}
+use Rattle.port_rows.specs.Opening.{AreHands}
 use Rattle.port_rows.specs.Rows.{RowsView}
 use Rattle.actor_turn.specs.declared.gear.RowGear.{RowGear}
 use Rattle.actor_turn.specs.Side.{AreInOrder}
@@ -13,7 +13,4 @@ pub record IsReady (g : RowGear) (parts links : ℕ) (rows : RowsView) : Type 0 
   pub settled : rows.seen ≡ map face_of rows.ports
   pub part_due : length g.part_due ≡ parts
   pub link_due : length g.link_due ≡ links
-  pub hands_all : length g.hands.items ≡ parts
-  pub hands : (i : ℕ) → i < parts
-      → length (slice_index_or g.hands.items i (record { ports = []; seen = [] })).ports
-      ≡ length (own_of g.parts.wiring i)
+  pub hands : AreHands g.hands.items g.parts.wiring parts

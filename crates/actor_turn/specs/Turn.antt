@@ -32,9 +32,10 @@ pub record TurnState (S : Type 0) : Type 0 where
   pub recs : RecView
   pub steps : ℕ
 
--- the row in hand for part i
+-- the row in hand for part i, at the number of its ports
 abbrev pub hand_at : RowGear → ℕ → PortsView
-hand_at g i = slice_index_or g.hands.items i (record { ports = []; seen = [] })
+hand_at g i =
+    slice_index_or g.hands.items (length (own_of g.parts.wiring i)) (record { ports = []; seen = [] })
 
 -- turns change the next times and the records of a gear, and nothing else
 pub record GearStays (old new : RowGear) : Type 0 where

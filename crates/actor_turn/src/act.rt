@@ -32,10 +32,10 @@ impl SideGear {
         recs.begin(Time(t), ActorNo(self.first + no));
         let link = &mut world.links[no as usize];
         let period = link.period();
-        if t % period != 0 {
+        let Some(cycle) = self.beat.cycle_at(t, period) else {
             return false;
-        }
-        world.rows.tick_link(no, link, t / period, recs, steps)
+        };
+        world.rows.tick_link(no, link, cycle, recs, steps)
     }
 
     /// Part `no` of this side steps at `t` (picoseconds) with its ports in this hand, where it has an edge there. The answer says
@@ -60,12 +60,10 @@ impl SideGear {
         recs.begin(Time(t), ActorNo(self.first + no));
         let part = &mut world.parts[no as usize];
         let period = part.period();
-        if t % period != 0 {
+        let Some(cycle) = self.beat.cycle_at(t, period) else {
             return false;
-        }
+        };
         let own = self.wiring.own(no);
-        world
-            .rows
-            .tick_part(own, hand, part, t / period, recs, steps)
+        world.rows.tick_part(own, hand, part, cycle, recs, steps)
     }
 }

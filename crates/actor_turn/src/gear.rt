@@ -1,6 +1,7 @@
-ghost use Rattle.std.specs.Prelude.{◌≡◌, ◌^◌, ◌<◌, length, map, IfOk};
+ghost use Rattle.std.specs.Prelude.{◌≡◌, ◌^◌, ◌<◌, ◌≤◌, [], length, map, IfOk};
+ghost use Rattle.sim_base.specs.declared.time.TheConstants.{LATEST_TICK};
 ghost use Rattle.port_row.specs.Row.{face_of};
-ghost use Rattle.port_rows.specs.Opening.{AreLong};
+ghost use Rattle.port_rows.specs.Opening.{AreHands};
 ghost use Rattle.port_rows.specs.Rows.{RowsView};
 ghost use Rattle.actor_turn.specs.Ready.{IsReady};
 ghost use Rattle.actor_turn.specs.Side.{AreInOrder};
@@ -13,7 +14,7 @@ use port_row::Ports;
 use sim_base::OutOfMemory;
 use std::alloc::Global;
 
-/// What a run takes besides its world: both sides, a row in hand for each part, who is due, next times, and room for the records
+/// What a run takes besides its world: both sides, rows in hand for its parts, who is due, next times, and room for the records
 /// of a time.
 #[derive(Drop)]
 pub struct RowGear {
@@ -27,7 +28,7 @@ pub struct RowGear {
 }
 
 impl RowGear {
-    /// A gear of these sides, with a row in hand for each part, and with nobody marked. It is ready for rows that are wired as its
+    /// A gear of these sides, with rows in hand for its parts, and with nobody marked. It is ready for rows that are wired as its
     /// links, once all is seen.
     pub fn open(
         alloc: Global,
@@ -38,7 +39,7 @@ impl RowGear {
         recs: RecList,
     ) -> Result<RowGear, OutOfMemory>
         requires order { AreInOrder parts links (length next) }
-        requires hands { AreLong hands.items parts.wiring (length parts.wiring.own) }
+        requires hands { AreHands hands.items parts.wiring (length parts.wiring.own) }
         requires few_parts { length parts.wiring.own < 2 ^ 32 }
         requires few_links { length links.wiring.own < 2 ^ 32 }
         ensures ready { IfOk result (λ gear. (rows : RowsView) → links.wiring ≡ rows.wires
@@ -60,5 +61,15 @@ impl RowGear {
             next,
             recs,
         })
+    }
+
+    /// Begins time `t` (picoseconds): the list of records is emptied, and both sides know an edge near it.
+    pub fn begin(&mut self, t: u64)
+        requires { t ≤ LATEST_TICK }
+        ensures { self.new ≡ record self.old { recs = record self.old.recs { items = [] } } }
+    {
+        self.recs.clear();
+        self.parts.beat.move_to(t);
+        self.links.beat.move_to(t);
     }
 }

@@ -3,6 +3,7 @@
 #![tactic(auto)]
 
 pub mod act;
+pub mod beat;
 pub mod gear;
 pub mod next;
 pub mod side;

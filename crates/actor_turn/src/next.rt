@@ -1,10 +1,12 @@
 //! Next times of actors: what a step leaves, and how it is noted.
-ghost use Rattle.std.specs.Prelude.{◌≡◌, ◌<◌, ◌≤◌, ◌||◌, length, slice_set};
+ghost use Rattle.std.specs.Prelude.{◌≡◌, ℕ, ◌+◌, ◌/◌, ◌^◌, ◌<◌, ◌≤◌, ◌||◌, length, slice_set, true, Option};
 ghost use Rattle.sim_base.specs.declared.time.TheConstants.{LATEST_TICK};
 ghost use Rattle.event_queue.specs.NextTimes.{time_of};
 ghost use Rattle.actor_turn.specs.Next.{left_by};
+ghost use Rattle.model_laws.specs.NextTable.{next_by};
 ghost use Rattle.model_laws.specs.SideTimes.{number_of, timed};
 
+use crate::side::SideGear;
 use event_queue::NextTimes;
 use sim_base::{ActorNo, Steps, Time};
 use std::sync::ledger::Ledger;
@@ -17,32 +19,19 @@ pub fn either(a: bool, b: bool) -> bool
     a || b
 }
 
-/// The next time that a step of this actor at `t` leaves, in picoseconds.
-pub fn next_of<S: Actor>(actor: &S, t: u64, flag: bool, old: Option<u64>) -> Option<u64>
+/// The next time that a step of this actor at its edge `t`, which is the one of this number, leaves, in picoseconds.
+fn left_at_edge<S: Actor>(actor: &S, t: u64, cycle: u64, flag: bool) -> Option<u64>
     requires time { t ≤ LATEST_TICK }
-    ensures { result ≡ left_by S.machine t flag old actor.now }
+    requires cycle { cycle ≡ t / S.machine.period actor.now }
+    ensures { (old : Option ℕ) → result ≡ next_by true S.machine t flag old actor.now }
 {
+    actor.known();
     let period = actor.period();
-    if t % period != 0 {
-        return old;
-    }
     if flag {
         return Some(t + period);
     }
-    actor.known();
-    match actor.due(t / period) {
+    match actor.due(cycle) {
         Some(cycle) => Some(cycle * period),
-        None => None,
-    }
-}
-
-/// The next time of an actor, in picoseconds.
-pub fn next_left<L: Ledger>(next: &NextTimes, who: ActorNo, looks: &mut Steps<L>) -> Option<u64>
-    requires { who.0 < length next.now }
-    ensures { result ≡ number_of (time_of next.now who.0) }
-{
-    match next.next_of(who, looks) {
-        Some(time) => Some(time.0),
         None => None,
     }
 }
@@ -63,21 +52,40 @@ pub fn set_next<L: Ledger>(
     }
 }
 
-/// Notes the next time that the step of this actor at `t` leaves it.
-pub fn note_next<S: Actor, L: Ledger>(
-    actor: &S,
-    who: ActorNo,
-    t: u64,
-    flag: bool,
-    next: &mut NextTimes,
-    looks: &mut Steps<L>,
-)
-    requires there { who.0 < length next.old }
-    requires time { t ≤ LATEST_TICK }
-    ensures { next.new ≡ slice_set next.old who.0
-        (timed (left_by S.machine t flag (number_of (time_of next.old who.0)) actor.now)) }
-{
-    let old = next_left(next, who, looks);
-    let left = next_of(actor, t, flag, old);
-    set_next(next, who, left, looks);
+impl SideGear {
+    /// The next time that a step at `t` leaves this actor of this side, in picoseconds. The old one stays where it has no edge
+    /// there.
+    pub fn next_of<S: Actor>(&self, actor: &S, t: u64, flag: bool, old: Option<u64>) -> Option<u64>
+        requires time { t ≤ LATEST_TICK }
+        ensures { result ≡ left_by S.machine t flag old actor.now }
+    {
+        match self.beat.cycle_at(t, actor.period()) {
+            Some(cycle) => left_at_edge(actor, t, cycle, flag),
+            None => old,
+        }
+    }
+
+    /// Notes the next time that the step of actor `no` of this side at `t` leaves it.
+    pub fn note_next<S: Actor, L: Ledger>(
+        &self,
+        actor: &S,
+        no: u32,
+        t: u64,
+        flag: bool,
+        next: &mut NextTimes,
+        looks: &mut Steps<L>,
+    )
+        requires there { self.now.first + no < length next.old }
+        requires few { self.now.first + no < 2 ^ 32 }
+        requires time { t ≤ LATEST_TICK }
+        ensures { next.new ≡ slice_set next.old (self.now.first + no)
+            (timed (left_by S.machine t flag
+            (number_of (time_of next.old (self.now.first + no))) actor.now)) }
+    {
+        let Some(cycle) = self.beat.cycle_at(t, actor.period()) else {
+            return;
+        };
+        let left = left_at_edge(actor, t, cycle, flag);
+        set_next(next, ActorNo(self.first + no), left, looks);
+    }
 }

@@ -4,10 +4,9 @@ ghost use Rattle.tick_law.specs.Wires.{own_of};
 ghost use Rattle.actor_turn.specs.Turn.{CanTurn, HasTurned, GearStays, hand_at, links_in, parts_in};
 
 use crate::gear::RowGear;
-use crate::next::note_next;
 use crate::wake::{wake_links, wake_parts};
 use port_rows::World;
-use sim_base::{ActorNo, Steps};
+use sim_base::Steps;
 use std::sync::ledger::Ledger;
 use tick_law::Actor;
 
@@ -32,8 +31,8 @@ pub fn link_turn<P: Drop, N: Actor + Drop, L: Ledger, M: Ledger>(
 {
     let flag = gear.links.act_link(world, no, t, &mut gear.recs, steps);
     let link = &world.links[no as usize];
-    let who = ActorNo(gear.links.first + no);
-    note_next(link, who, t, flag, &mut gear.next, looks);
+    gear.links
+        .note_next(link, no, t, flag, &mut gear.next, looks);
     wake_parts(
         &mut world.rows,
         no,
@@ -57,7 +56,7 @@ pub fn part_turn<P: Actor + Drop, N: Drop, L: Ledger, M: Ledger>(
 ) -> bool
     requires can { CanTurn P.machine gear.old.parts gear.old.links no t
         (parts_in world.old gear.old steps.old) }
-    requires hands { no < length gear.old.hands.items }
+    requires hands { length (own_of gear.old.parts.wiring no) < length gear.old.hands.items }
     requires hand { length (hand_at gear.old no).ports ≡ length (own_of gear.old.parts.wiring no) }
 
     ensures turned { HasTurned P.machine false gear.old.parts gear.old.links no t
@@ -65,13 +64,14 @@ pub fn part_turn<P: Actor + Drop, N: Drop, L: Ledger, M: Ledger>(
     ensures links { world.new.links ≡ world.old.links }
     ensures stays { GearStays gear.old gear.new }
 {
-    let hand = &mut gear.hands[no as usize];
+    let ports = gear.parts.wiring.own(no).len();
+    let hand = &mut gear.hands[ports];
     let flag = gear
         .parts
         .act_part(world, hand, no, t, &mut gear.recs, steps);
     let part = &world.parts[no as usize];
-    let who = ActorNo(gear.parts.first + no);
-    note_next(part, who, t, flag, &mut gear.next, looks);
+    gear.parts
+        .note_next(part, no, t, flag, &mut gear.next, looks);
     let own = gear.parts.wiring.own(no);
     wake_links(&mut world.rows, own, &gear.links, t, &mut gear.next, looks);
     flag

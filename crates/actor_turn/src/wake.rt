@@ -11,7 +11,7 @@ use crate::next::set_next;
 use crate::side::SideGear;
 use event_queue::NextTimes;
 use port_rows::{PortRows, SideOf};
-use sim_base::{ActorNo, Steps, Time, first_edge_from};
+use sim_base::{ActorNo, Steps};
 use std::sync::ledger::Ledger;
 
 /// Where this holds, the owner of a port steps at its first edge from `from`.
@@ -30,8 +30,9 @@ fn wake_where<L: Ledger>(
 {
     if changed {
         let no = others.wiring.owner(port);
-        let edge = first_edge_from(Time(from), others.periods[no as usize]);
-        set_next(next, ActorNo(others.first + no), Some(edge.0), looks);
+        let period = others.periods[no as usize];
+        let edge = others.beat.first_edge_from(from, period);
+        set_next(next, ActorNo(others.first + no), Some(edge), looks);
     }
 }
 

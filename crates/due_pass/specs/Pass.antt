@@ -1,9 +1,8 @@
 -- What a pass over those that are due needs, and what it does.
-use Rattle.std.specs.Prelude.{◌≡◌, ℕ, ◌+◌, ◌*◌, ◌^◌, ◌<◌, ◌≤◌, ◌++◌, List, [], length, map, Bool, slice_index_or}
+use Rattle.std.specs.Prelude.{◌≡◌, ℕ, ◌+◌, ◌*◌, ◌^◌, ◌<◌, ◌≤◌, ◌++◌, List, length, map, Bool}
 use Rattle.sim_base.specs.declared.time.TheConstants.{LATEST_TIME}
 use Rattle.bit_set.specs.Bits.{is_in}
 use Rattle.tick_law.specs.Machine.{Machine}
-use Rattle.tick_law.specs.Wires.{Wires, own_of}
 use Rattle.tick_law.specs.Pass.{pass}
 use Rattle.tick_law.specs.Outcomes.{outcome, records, stirs, steps_of}
 use Rattle.tick_law.specs.NextTime.{woken}
@@ -14,18 +13,11 @@ use Rattle.model_laws.specs.WellFormed.{HasRoom, IsSound}
 use Rattle.model_laws.specs.Stepping.{Due}
 use Rattle.model_laws.specs.SideTimes.{half_of, AreSides}
 use Rattle.model_laws.specs.Changed.{changed}
-use Rattle.port_row.specs.Row.{PortsView, face_of}
+use Rattle.port_row.specs.Row.{face_of}
 use Rattle.actor_turn.specs.declared.side.SideGear.{SideGear}
 use Rattle.actor_turn.specs.Side.{times_of, edge_of, wake_time}
 use Rattle.actor_turn.specs.Waking.{CanWake}
 use Rattle.actor_turn.specs.Turn.{TurnState, side_in, places_in, own_next}
-
--- a row in hand for each of so many parts, as long as the list of its own ports
-pub record FitHands (hands : List PortsView) (w : Wires) (count : ℕ) : Type 0 where
-  pub all : length hands ≡ count
-  pub each : (i : ℕ) → i < count
-      → length (slice_index_or hands i (record { ports = []; seen = [] })).ports
-      ≡ length (own_of w i)
 
 module _ {S : Type 0} where
   -- whose next time is t

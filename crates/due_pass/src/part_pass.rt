@@ -1,7 +1,8 @@
 //! A pass over the parts whose next time is now, in the order of their numbers.
 ghost use Rattle.std.specs.Prelude.{◌≡◌, length, false};
+ghost use Rattle.port_rows.specs.Opening.{AreHands};
 ghost use Rattle.actor_turn.specs.Turn.{GearStays, parts_in};
-ghost use Rattle.due_pass.specs.Pass.{FitHands, AreMarked, CanPass, HasPassed};
+ghost use Rattle.due_pass.specs.Pass.{AreMarked, CanPass, HasPassed};
 
 use actor_turn::gear::RowGear;
 use actor_turn::next::either;
@@ -11,7 +12,7 @@ use sim_base::{ActorNo, Steps, Time};
 use std::sync::ledger::Ledger;
 use tick_law::Actor;
 
-/// Each part of the set of those that are due has its turn at `t` (picoseconds), with a row of its own in hand. The answer says
+/// Each part of the set of those that are due has its turn at `t` (picoseconds), with its ports in hand. The answer says
 /// whether one made progress.
 pub fn pass_marked_parts<P: Actor + Drop, N: Drop, L: Ledger, M: Ledger>(
     world: &mut World<P, N>,
@@ -22,7 +23,7 @@ pub fn pass_marked_parts<P: Actor + Drop, N: Drop, L: Ledger, M: Ledger>(
 ) -> bool
     requires can { CanPass P.machine P.valid gear.old.parts gear.old.links t
         (parts_in world.old gear.old steps.old) }
-    requires hands { FitHands gear.old.hands.items gear.old.parts.wiring
+    requires hands { AreHands gear.old.hands.items gear.old.parts.wiring
         (length world.old.parts.items) }
     requires due { length gear.old.part_due ≡ length world.old.parts.items }
     requires marked { AreMarked gear.old.part_due gear.old.parts t
@@ -43,7 +44,7 @@ pub fn pass_marked_parts<P: Actor + Drop, N: Drop, L: Ledger, M: Ledger>(
     stirred
 }
 
-/// Each part whose next time is `t` (picoseconds) has its turn, with a row of its own in hand. The heap is asked once for all of
+/// Each part whose next time is `t` (picoseconds) has its turn, with its ports in hand. The heap is asked once for all of
 /// them. The answer says whether one made progress.
 pub fn pass_due_parts<P: Actor + Drop, N: Drop, L: Ledger, M: Ledger>(
     world: &mut World<P, N>,
@@ -54,7 +55,7 @@ pub fn pass_due_parts<P: Actor + Drop, N: Drop, L: Ledger, M: Ledger>(
 ) -> bool
     requires can { CanPass P.machine P.valid gear.old.parts gear.old.links t
         (parts_in world.old gear.old steps.old) }
-    requires hands { FitHands gear.old.hands.items gear.old.parts.wiring
+    requires hands { AreHands gear.old.hands.items gear.old.parts.wiring
         (length world.old.parts.items) }
     requires due { length gear.old.part_due ≡ length world.old.parts.items }
 

@@ -122,6 +122,13 @@ impl Memory {
         self.bytes.len() as u32
     }
 
+    /// All its bytes, from the first address on.
+    pub fn bytes(&self) -> &[u8]
+        ensures { result.now ≡ self.now.bytes }
+    {
+        &self.bytes
+    }
+
     /// The byte at an address, or None where that is outside the memory.
     pub fn byte(&self, addr: u32) -> Option<u8>
         ensures { result ≡ byte_at self.now addr }

@@ -25,18 +25,18 @@ or_mixed false true true d = refl
 or_mixed false true false d = refl
 or_mixed false false c d = refl
 
-any_either : (f g : ℕ → Bool) (qs : List ℕ) → any_of (λ q. f q || g q) qs ≡ (any_of f qs || any_of g qs)
+pub any_either : (f g : ℕ → Bool) (qs : List ℕ) → any_of (λ q. f q || g q) qs ≡ (any_of f qs || any_of g qs)
 any_either f g [] = refl
 any_either f g (q ∷ qs) = ap (λ b. (f q || g q) || b) (any_either f g qs) ∙ or_mixed (f q) (g q) (any_of f qs) (any_of g qs)
 
-woken_twice : (a b : Bool) (e : ℕ) (o : Option ℕ) → woken b e (woken a e o) ≡ woken (a || b) e o
+pub woken_twice : (a b : Bool) (e : ℕ) (o : Option ℕ) → woken b e (woken a e o) ≡ woken (a || b) e o
 woken_twice true true e o = refl
 woken_twice true false e o = refl
 woken_twice false true e o = refl
 woken_twice false false e o = refl
 
 -- what is tested of one that is in the list
-hit_in : (test : ℕ → Bool) (own : List ℕ) (q : ℕ) → Has own q → hit test own q ≡ test q
+pub hit_in : (test : ℕ → Bool) (own : List ℕ) (q : ℕ) → Has own q → hit test own q ≡ test q
 hit_in test own q has = by_test (test q) refl
   where
     by_test : (b : Bool) → test q ≡ b → hit test own q ≡ test q
@@ -48,7 +48,7 @@ hit_in test own q has = by_test (test q) refl
         none x false f = ap (λ b. b && test x) f
 
 -- one that is not in the list
-hit_out : (test : ℕ → Bool) (own : List ℕ) (q : ℕ) → (Has own q → ⊥) → hit test own q ≡ false
+pub hit_out : (test : ℕ → Bool) (own : List ℕ) (q : ℕ) → (Has own q → ⊥) → hit test own q ≡ false
 hit_out test own q out = any_same (λ x. (x == q) && test x) (λ x. false) own (λ x here. none x here (x == q) refl) ∙ any_false own
   where
     none : (x : ℕ) → Has own x → (y : Bool) → (x == q) ≡ y → ((x == q) && test x) ≡ false

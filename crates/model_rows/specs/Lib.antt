@@ -3,5 +3,6 @@ pub mod LinkRows
 pub mod MemoryRows
 pub mod OutsideRows
 pub mod ReportRows
+pub mod CoreRows
 pub mod RingRows
 pub mod TrafficRows

@@ -2,6 +2,7 @@
 //! contract is the fact, so that a definition that is changed is refused by the numbers that stand beside it.
 #![tactic(auto)]
 
+mod core_lines;
 mod link;
 mod memory;
 mod outside;
@@ -9,6 +10,7 @@ mod report;
 mod ring;
 mod traffic;
 
+pub use core_lines::printed_cores;
 pub use link::contending_ports;
 pub use memory::whole_answers;
 pub use outside::rising_counts;

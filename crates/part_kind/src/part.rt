@@ -3,6 +3,7 @@ ghost use Rattle.part_kind.specs.Part.{part, IsValid, part_framed, part_stays, p
 use mem_ctrl::Memory;
 use port_msg::RecList;
 use port_row::Ports;
+use rv_core::Core;
 use sim_base::Steps;
 use std::sync::ledger::Ledger;
 use tick_law::Actor;
@@ -14,6 +15,7 @@ pub enum Part {
     Relay(Relay),
     Agent(Agent),
     Memory(Memory),
+    Core(Core),
 }
 
 impl Actor for Part {
@@ -32,6 +34,7 @@ impl Actor for Part {
             Part::Relay(relay) => relay.tick(ports, cycle, recs, steps),
             Part::Agent(agent) => agent.tick(ports, cycle, recs, steps),
             Part::Memory(memory) => memory.tick(ports, cycle, recs, steps),
+            Part::Core(core) => core.tick(ports, cycle, recs, steps),
         }
     }
 
@@ -40,6 +43,7 @@ impl Actor for Part {
             Part::Relay(relay) => relay.due(cycle),
             Part::Agent(agent) => agent.due(cycle),
             Part::Memory(memory) => memory.due(cycle),
+            Part::Core(core) => core.due(cycle),
         }
     }
 
@@ -48,6 +52,7 @@ impl Actor for Part {
             Part::Relay(relay) => relay.period(),
             Part::Agent(agent) => agent.period(),
             Part::Memory(memory) => memory.period(),
+            Part::Core(core) => core.period(),
         }
     }
 
@@ -56,6 +61,7 @@ impl Actor for Part {
             Part::Relay(relay) => relay.done(),
             Part::Agent(agent) => agent.done(),
             Part::Memory(memory) => memory.done(),
+            Part::Core(core) => core.done(),
         }
     }
 
@@ -64,6 +70,7 @@ impl Actor for Part {
             Part::Relay(relay) => relay.known(),
             Part::Agent(agent) => agent.known(),
             Part::Memory(memory) => memory.known(),
+            Part::Core(core) => core.known(),
         }
     }
 

@@ -34,6 +34,6 @@ pub fn one_time<P: Actor + Drop, N: Actor + Drop, C: Charter<P, N>, L: Ledger, M
     ensures steps { steps.new ≡ steps.old
         + awake_now (system_from P.machine N.machine C.plan C.start) t }
 {
-    gear.recs.clear();
+    gear.begin(t);
     due_time::<P, N, C, L, M>(world, gear, t, steps, looks)
 }

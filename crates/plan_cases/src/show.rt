@@ -1,4 +1,5 @@
 //! A plan as lines, one for each part, link and port, and one for the own ports of each.
+use mem_ctrl::Memory;
 use part_kind::{LinkKind, Part};
 use sim_base::Name;
 use std::io;
@@ -13,6 +14,7 @@ fn kind(part: &Part) -> &'static str {
         Part::Relay(_) => "relay",
         Part::Agent(_) => "agent",
         Part::Memory(_) => "memory",
+        Part::Core(_) => "core",
     }
 }
 
@@ -27,6 +29,30 @@ fn parts(rt: &impl Print, plan: &Plan<Part, LinkKind>) -> io::Result<()> {
     Ok(())
 }
 
+/// Prints each byte of a memory that is not zero.
+fn bytes(rt: &impl Print, name: &Name, memory: &Memory) -> io::Result<()> {
+    for no in 0..memory.size() {
+        let addr = memory.base().saturating_add(no);
+        let byte = memory.byte(addr).unwrap_or(0);
+        if byte != 0 {
+            println!(rt; "byte {} {addr} {byte}", text(name))?;
+        }
+    }
+    Ok(())
+}
+
+/// Prints where each core begins, and the bytes of each memory.
+fn states(rt: &impl Print, plan: &Plan<Part, LinkKind>) -> io::Result<()> {
+    for (part, name) in plan.parts.iter().zip(&plan.part_names) {
+        match part {
+            Part::Core(core) => println!(rt; "pc {} {}", text(name), core.pc())?,
+            Part::Memory(memory) => bytes(rt, name, memory)?,
+            Part::Relay(_) | Part::Agent(_) => {}
+        }
+    }
+    Ok(())
+}
+
 fn links(rt: &impl Print, plan: &Plan<Part, LinkKind>) -> io::Result<()> {
     for (link, name) in plan.links.iter().zip(&plan.link_names) {
         println!(rt; "link {} {}", text(name), link.period())?;
@@ -34,10 +60,12 @@ fn links(rt: &impl Print, plan: &Plan<Part, LinkKind>) -> io::Result<()> {
     Ok(())
 }
 
-/// Prints the last time, and then each part, link and port, and the own ports of each part and link.
+/// Prints the last time, and then each part, where cores begin and what memories hold, each link and port, and the own ports of each
+/// part and link.
 pub fn plan(rt: &impl Print, plan: &Plan<Part, LinkKind>) -> io::Result<()> {
     println!(rt; "until {}", plan.until.0)?;
     parts(rt, plan)?;
+    states(rt, plan)?;
     links(rt, plan)?;
     for port in &plan.ports {
         println!(rt;

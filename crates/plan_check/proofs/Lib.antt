@@ -5,3 +5,5 @@ pub mod PlanLemmas
 pub mod Ranges
 pub mod MapLemmas
 pub mod LoopSteps
+pub mod Writing
+pub mod FirstUnmapped

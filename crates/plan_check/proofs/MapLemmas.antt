@@ -8,7 +8,7 @@ use Rattle.plan_rules.specs.declared.rule.PlanRule.TheVariants.{MapOverlap}
 use Rattle.plan_rules.specs.Rules.{breaks, map_overlap, overlaps}
 use Rattle.plan_rules.specs.Text.{passes, ranges_at, ranges_of}
 use Rattle.plan_rules.proofs.Few.{no_range}
-use Rattle.plan_check.specs.Plan.{range_of}
+use Rattle.plan_check.specs.Maps.{range_of}
 use Rattle.plan_check.proofs.Places.{below_or, some_at, get_past}
 use Rattle.plan_check.proofs.Ranges.{blank_range, ranges_apart}
 use Rattle.plan_check.proofs.PlanLemmas.{IsKept}

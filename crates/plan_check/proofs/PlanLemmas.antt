@@ -8,6 +8,7 @@ use Rattle.sim_config.specs.declared.fault.TableNo.{TableNo}
 use Rattle.tick_law.specs.PlanView.{PlanView, IsPlan, part_wires, link_wires}
 use Rattle.tick_law.specs.Wires.{Wires, Wired, own_of, owner_of}
 use Rattle.tick_law.specs.declared.port_plan.PortPlan.{PortPlan}
+use Rattle.elf_load.specs.declared.image.Image.{Image}
 use Rattle.part_kind.specs.Part.{part, part_own}
 use Rattle.part_kind.specs.LinkKind.{link, link_own}
 use Rattle.part_kind.specs.declared.part.Part.{Part}
@@ -91,44 +92,44 @@ length-ports text [] = refl
 length-ports text (l ∷ ls) = ap (λ n. n ∷ map (λ (l : LinkTable). length l.ports) ls) (sym (length-map _ l.ports)) ∙ ap (λ ns. length (port_numbers text l) ∷ ns) (length-ports text ls)
 
 -- how many parts and links the plan has, by what their lists of own ports say
-pub record AreCounted (text : PlanTables) : Type 0 where
-  pub parts : map part_own (parts_to text (length text.parts)) ≡ map (λ (p : PartTable). port_count p.kind) text.parts
+pub record AreCounted (text : PlanTables) (images : List Image) : Type 0 where
+  pub parts : map part_own (parts_to text images (length text.parts)) ≡ map (λ (p : PartTable). port_count p.kind) text.parts
   pub links : map link_own (links_to text (length text.links)) ≡ map length (link_ports text)
 
-module _ (text : PlanTables) (counted : AreCounted text) where
-  part_count : length (parts_to text (length text.parts)) ≡ length text.parts
-  part_count = sym (length-map part_own (parts_to text (length text.parts))) ∙ ap length counted.parts ∙ length-map (λ (p : PartTable). port_count p.kind) text.parts
+module _ (text : PlanTables) (images : List Image) (counted : AreCounted text images) where
+  part_count : length (parts_to text images (length text.parts)) ≡ length text.parts
+  part_count = sym (length-map part_own (parts_to text images (length text.parts))) ∙ ap length counted.parts ∙ length-map (λ (p : PartTable). port_count p.kind) text.parts
 
   link_count : length (links_to text (length text.links)) ≡ length text.links
   link_count = sym (length-map link_own (links_to text (length text.links))) ∙ ap length counted.links ∙ length-map length (link_ports text) ∙ length-map (port_numbers text) text.links
 
-  part_wires_are : part_wires (plan_of text) ≡ wires_of_parts text
-  part_wires_are = wires_is _ _ _ _ (take_front (own_to text (length text.parts)) (map own_of_link (link_ports text)) (length (parts_to text (length text.parts))) (part_count ∙ sym (count_own_to text (length text.parts)))) refl ∙ sym (wires_of_parts_are text)
+  part_wires_are : part_wires (plan_of text images) ≡ wires_of_parts text
+  part_wires_are = wires_is _ _ _ _ (take_front (own_to text (length text.parts)) (map own_of_link (link_ports text)) (length (parts_to text images (length text.parts))) (part_count ∙ sym (count_own_to text (length text.parts)))) refl ∙ sym (wires_of_parts_are text)
 
-  link_wires_are : link_wires (plan_of text) ≡ wires_of_links text
-  link_wires_are = wires_is _ _ _ _ (drop_front (own_to text (length text.parts)) (map own_of_link (link_ports text)) (length (parts_to text (length text.parts))) (part_count ∙ sym (count_own_to text (length text.parts)))) refl ∙ sym (wires_of_links_are text)
+  link_wires_are : link_wires (plan_of text images) ≡ wires_of_links text
+  link_wires_are = wires_is _ _ _ _ (drop_front (own_to text (length text.parts)) (map own_of_link (link_ports text)) (length (parts_to text images (length text.parts))) (part_count ∙ sym (count_own_to text (length text.parts)))) refl ∙ sym (wires_of_links_are text)
 
   mapped_here : {A : Type 0} (f : A → ℕ) (xs : List A) (ys : List ℕ) (i : ℕ) (x : A) → map f xs ≡ ys → slice_get xs i ≡ Some x → slice_get ys i ≡ Some (f x)
   mapped_here f xs ys i x same there = ap (λ l. slice_get l i) (sym same) ∙ slice_get-map f xs i ∙ ap (option_map f) there
 
-  part_own_is : (i : ℕ) (s : Part) → slice_get (parts_to text (length text.parts)) i ≡ Some s → length (own_of (part_wires (plan_of text)) i) ≡ part_own s
+  part_own_is : (i : ℕ) (s : Part) → slice_get (parts_to text images (length text.parts)) i ≡ Some s → length (own_of (part_wires (plan_of text images)) i) ≡ part_own s
   part_own_is i s there =
-      let b : i < length text.parts = (let l = within (parts_to text (length text.parts)) i s there in let c = part_count in omega (arith, l, c)) in
-      let own : option_map (λ (p : PartTable). port_count p.kind) (slice_get text.parts i) ≡ Some (part_own s) = sym (slice_get-map (λ (p : PartTable). port_count p.kind) text.parts i) ∙ mapped_here part_own (parts_to text (length text.parts)) _ i s counted.parts there in
+      let b : i < length text.parts = (let l = within (parts_to text images (length text.parts)) i s there in let c = part_count in omega (arith, l, c)) in
+      let own : option_map (λ (p : PartTable). port_count p.kind) (slice_get text.parts i) ≡ Some (part_own s) = sym (slice_get-map (λ (p : PartTable). port_count p.kind) text.parts i) ∙ mapped_here part_own (parts_to text images (length text.parts)) _ i s counted.parts there in
       ap (λ w. length (own_of w i)) part_wires_are ∙ own_length text i b ∙ count_is (slice_get text.parts i) own
     where
       count_is : (o : Option PartTable) → option_map (λ (p : PartTable). port_count p.kind) o ≡ Some (part_own s) → count_of o ≡ part_own s
       count_is None e = absurd (cc)
       count_is (Some t) e = cc
 
-  link_own_is : (l : ℕ) (s : LinkKind) → slice_get (links_to text (length text.links)) l ≡ Some s → length (own_of (link_wires (plan_of text)) l) ≡ link_own s
+  link_own_is : (l : ℕ) (s : LinkKind) → slice_get (links_to text (length text.links)) l ≡ Some s → length (own_of (link_wires (plan_of text images)) l) ≡ link_own s
   link_own_is l s there =
       let b : l < length text.links = (let h = within (links_to text (length text.links)) l s there in let c = link_count in omega (arith, h, c)) in
       let own = mapped_here link_own (links_to text (length text.links)) _ l s counted.links there in
       let m = length-map (port_numbers text) text.links in
       ap (λ w. length (own_of w l)) link_wires_are ∙ own_count text l b ∙ sym (get_map length (link_ports text) l [] 0 (omega (arith, b, m))) ∙ get_there (map length (link_ports text)) l (link_own s) 0 own
 
-  pub plan_is_plan : IsFew text → IsKept text → text.until.0 ≤ 500000000000 → All HasCapacity (ports_to text (length text.parts)) → IsPlan part link (plan_of text)
+  pub plan_is_plan : IsFew text → IsKept text → text.until.0 ≤ 500000000000 → All HasCapacity (ports_to text (length text.parts)) → IsPlan part link (plan_of text images)
   plan_is_plan few is early capacities =
       let together = joined text is in
       let ports = length-ports_to text (length text.parts) in
@@ -145,10 +146,10 @@ module _ (text : PlanTables) (counted : AreCounted text) where
         own = (let a = length-append (own_to text (length text.parts)) (map own_of_link (link_ports text)) in let b = count_own_to text (length text.parts) in let c = length-map own_of_link (link_ports text) in let d = length-map (port_numbers text) text.links in let e = part_count in let f = link_count in omega (arith, a, b, c, d, e, f));
         until = early;
         capacities = λ q p there. capacity q p there;
-        part_wired = subst (Wired (part_wires (plan_of text))) (sym ports) (subst (λ w. Wired w (first_port text (length text.parts))) (sym part_wires_are) (parts_wired text));
-        link_wired = subst (Wired (link_wires (plan_of text))) (sym ports) (subst (λ w. Wired w (first_port text (length text.parts))) (sym link_wires_are) (links_wired text together));
-        part_owned = λ q b. (let o : owner_of (part_wires (plan_of text)) q ≡ owner_of (wires_of_parts text) q = ap (λ w. owner_of w q) part_wires_are in let l = part_owned text q (omega (arith, b, ports)) in let c = part_count in omega (arith, o, l, c));
-        link_owned = λ q b. (let o : owner_of (link_wires (plan_of text)) q ≡ owner_of (wires_of_links text) q = ap (λ w. owner_of w q) link_wires_are in let l = link_owned text together q (omega (arith, b, ports)) in let c = link_count in omega (arith, o, l, c));
+        part_wired = subst (Wired (part_wires (plan_of text images))) (sym ports) (subst (λ w. Wired w (first_port text (length text.parts))) (sym part_wires_are) (parts_wired text));
+        link_wired = subst (Wired (link_wires (plan_of text images))) (sym ports) (subst (λ w. Wired w (first_port text (length text.parts))) (sym link_wires_are) (links_wired text together));
+        part_owned = λ q b. (let o : owner_of (part_wires (plan_of text images)) q ≡ owner_of (wires_of_parts text) q = ap (λ w. owner_of w q) part_wires_are in let l = part_owned text q (omega (arith, b, ports)) in let c = part_count in omega (arith, o, l, c));
+        link_owned = λ q b. (let o : owner_of (link_wires (plan_of text images)) q ≡ owner_of (wires_of_links text) q = ap (λ w. owner_of w q) link_wires_are in let l = link_owned text together q (omega (arith, b, ports)) in let c = link_count in omega (arith, o, l, c));
         part_own = part_own_is;
         link_own = link_own_is;
       }
@@ -165,7 +166,7 @@ view_is : (p p' : List Part) (l l' : List LinkKind) (a a' b b' : List (List ℕ)
 view_is p p' l l' a a' b b' f f' q q' o o' t t' c d e g h i j k = cc
 
 -- what has the parts of a plan is the plan
-pub plan_is : (text : PlanTables) (parts : List Part) (links : List LinkKind) (part_names link_names : List (List ℕ)) (fields : List (List (List ℕ))) (ports : List PortPlan) (own : List (List ℕ)) (until : ℕ) →
-    parts ≡ (plan_of text).parts → links ≡ (plan_of text).links → part_names ≡ (plan_of text).part_names → link_names ≡ (plan_of text).link_names → fields ≡ (plan_of text).fields → ports ≡ (plan_of text).ports → own ≡ (plan_of text).own → until ≡ (plan_of text).until →
-    (let x : PlanView Part LinkKind = record { parts = parts; links = links; part_names = part_names; link_names = link_names; fields = fields; ports = ports; own = own; until = until } in x ≡ plan_of text)
-plan_is text parts links part_names link_names fields ports own until a b c d e f g h = view_is _ _ _ _ _ _ _ _ _ _ _ _ _ _ _ _ a b c d e f g h
+pub plan_is : (text : PlanTables) (images : List Image) (parts : List Part) (links : List LinkKind) (part_names link_names : List (List ℕ)) (fields : List (List (List ℕ))) (ports : List PortPlan) (own : List (List ℕ)) (until : ℕ) →
+    parts ≡ (plan_of text images).parts → links ≡ (plan_of text images).links → part_names ≡ (plan_of text images).part_names → link_names ≡ (plan_of text images).link_names → fields ≡ (plan_of text images).fields → ports ≡ (plan_of text images).ports → own ≡ (plan_of text images).own → until ≡ (plan_of text images).until →
+    (let x : PlanView Part LinkKind = record { parts = parts; links = links; part_names = part_names; link_names = link_names; fields = fields; ports = ports; own = own; until = until } in x ≡ plan_of text images)
+plan_is text images parts links part_names link_names fields ports own until a b c d e f g h = view_is _ _ _ _ _ _ _ _ _ _ _ _ _ _ _ _ a b c d e f g h

@@ -13,7 +13,7 @@ use Rattle.addr_map.specs.declared.range.Range.{Range}
 use Rattle.sim_config.specs.declared.fault.TableNo.{TableNo}
 use Rattle.plan_rules.specs.Text.{ranges_at}
 use Rattle.plan_rules.specs.Rules.{overlaps}
-use Rattle.plan_check.specs.Plan.{range_of}
+use Rattle.plan_check.specs.Maps.{range_of}
 use Rattle.plan_check.proofs.Places.{length-map, get_map, get_take, any_false}
 
 power_step : (k : ℕ) → 2 ^ suc k ≡ 2 * 2 ^ k

@@ -1,2 +1,4 @@
 pub mod Fields
+pub mod Maps
+pub mod Programs
 pub mod Plan

@@ -4,10 +4,14 @@
 mod bytes;
 mod fields;
 mod links;
+mod load;
 mod maps;
 mod names;
 mod parts;
+mod placing;
 mod ports;
+mod programs;
+mod unmapped;
 mod whole;
 
 pub use fields::field_names;

@@ -3,7 +3,8 @@ ghost use Rattle.sim_config.specs.Tables.{RangeTable};
 ghost use Rattle.addr_map.specs.Range.{IsRange, Apart};
 ghost use Rattle.plan_rules.specs.First.{first_broken};
 ghost use Rattle.plan_rules.specs.Text.{range_targets, ranges_at};
-ghost use Rattle.plan_check.specs.Plan.{port_to, map_of, range_of};
+ghost use Rattle.plan_check.specs.Maps.{port_to, map_of, range_of};
+ghost use Rattle.plan_check.specs.Plan.{second_port};
 
 use addr_map::{Range, Ranges, Targets};
 use plan_rules::Numbered;
@@ -19,6 +20,13 @@ pub(crate) fn port_to(plan: &Numbered, part: Option<usize>) -> PortNo
         Some(part) => PortNo(plan.first_port(part)),
         None => PortNo(0),
     }
+}
+
+/// The second port of a part.
+pub(crate) fn second_port(plan: &Numbered, part: usize) -> PortNo
+    ensures { result ≡ second_port plan.now part }
+{
+    PortNo(plan.first_port(part) + 1)
 }
 
 fn ports_to(

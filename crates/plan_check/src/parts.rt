@@ -1,26 +1,37 @@
-ghost use Rattle.std.specs.Prelude.{◌≡◌, ◌<◌, None, Some, map, length, IfOk};
+ghost use Rattle.std.specs.Prelude.{◌≡◌, None, Some, map, length, IfOk};
 ghost use Rattle.sim_config.specs.Tables.{PartTable};
 ghost use Rattle.part_kind.specs.Part.{part_own};
 ghost use Rattle.plan_rules.specs.First.{first_broken};
 ghost use Rattle.plan_rules.specs.Kinds.{port_count};
+ghost use Rattle.plan_check.specs.Programs.{data_map};
 ghost use Rattle.plan_check.specs.Plan.{part_of, parts_to};
 
-use crate::bytes::opening_bytes;
-use crate::maps::{map_of, port_to};
+use crate::maps::{map_of, port_to, second_port};
+use crate::placing::opening_bytes;
+use crate::programs::{Programs, first_pc};
 use mem_ctrl::{Memory, MemoryText};
 use part_kind::Part;
 use plan_rules::Numbered;
-use sim_base::{ActorNo, OutOfMemory};
+use rv_core::{Core, CoreText};
+use sim_base::{ActorNo, OutOfMemory, PortList};
 use sim_config::{PartKeys, PartText};
 use std::alloc::Global;
 use traffic_parts::{Agent, AgentText, Relay, RelayText};
 
 /// The part of a number as its kind opens it.
 #[tactic(auto, unfolding(crate::specs::Plan::part_of))]
-fn part_of(alloc: Global, plan: &Numbered, no: u32, part: &PartText) -> Result<Part, OutOfMemory>
-    requires { first_broken plan.now ≡ None }
+fn part_of(
+    alloc: Global,
+    plan: &Numbered,
+    programs: &Programs,
+    no: u32,
+    part: &PartText,
+) -> Result<Part, OutOfMemory>
+    requires kept { first_broken plan.now ≡ None }
+    requires maps { programs.now.maps.now ≡ map (data_map plan.now) plan.now.programs }
+    requires count { length programs.now.images.now ≡ length programs.now.maps.now }
 
-    ensures part { IfOk result (λ p. part_of plan.now no part.now ≡ Some p) }
+    ensures part { IfOk result (λ p. part_of plan.now programs.now.images.now no part.now ≡ Some p) }
     ensures own { IfOk result (λ p. part_own p ≡ port_count part.now.kind) }
 {
     let actor = ActorNo(no);
@@ -79,26 +90,49 @@ fn part_of(alloc: Global, plan: &Numbered, no: u32, part: &PartText) -> Result<P
                 size: *size,
                 latency: *latency,
                 depth: *depth,
-                bytes: opening_bytes(alloc, *size, words.items())?,
+                bytes: opening_bytes(alloc, programs, port, *base, *size, words.items())?,
             };
             Ok(Part::Memory(Memory::open(alloc, &text)?))
         }
-        PartKeys::Cache { .. } | PartKeys::Core { .. } => unreachable!(),
+        PartKeys::Core {
+            inst_map,
+            data_map,
+            pc,
+        } => {
+            let text = CoreText {
+                actor,
+                period,
+                inst_port: port,
+                data_port: second_port(plan, no as usize),
+                inst_map: map_of(alloc, plan, inst_map)?,
+                data_map: map_of(alloc, plan, data_map)?,
+                caches: PortList::of(Vec::new(alloc)),
+                pc: first_pc(plan, programs.images, &part.name, *pc),
+            };
+            Ok(Part::Core(Core::open(alloc, &text)?))
+        }
+        PartKeys::Cache { .. } => unreachable!(),
     }
 }
 
 /// All parts.
-pub(crate) fn all_parts(alloc: Global, plan: &Numbered) -> Result<Vec<Part>, OutOfMemory>
-    requires { first_broken plan.now ≡ None }
+pub(crate) fn all_parts(
+    alloc: Global,
+    plan: &Numbered,
+    programs: &Programs,
+) -> Result<Vec<Part>, OutOfMemory>
+    requires kept { first_broken plan.now ≡ None }
+    requires maps { programs.now.maps.now ≡ map (data_map plan.now) plan.now.programs }
+    requires count { length programs.now.images.now ≡ length programs.now.maps.now }
 
-    ensures parts { IfOk result (λ v. v.items ≡ parts_to plan.now (length plan.now.parts)) }
+    ensures parts { IfOk result (λ v. v.items ≡ parts_to plan.now programs.now.images.now (length plan.now.parts)) }
     ensures own { IfOk result (λ v. map part_own v.items ≡ map (λ (p : PartTable). port_count p.kind) plan.now.parts) }
 {
     let text = plan.text();
     let tables = text.parts.items();
     let mut parts = Vec::new(alloc);
     for no in 0..tables.len() as u32 {
-        parts.push(part_of(alloc, plan, no, &tables[no as usize])?)?;
+        parts.push(part_of(alloc, plan, programs, no, &tables[no as usize])?)?;
     }
     Ok(parts)
 }

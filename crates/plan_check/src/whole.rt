@@ -1,14 +1,20 @@
-ghost use Rattle.std.specs.Prelude.{◌≡◌, ℕ, Some, None, IfOk, OnOk, IsErrOf};
+ghost use Rattle.std.specs.Prelude.{◌≡◌, ℕ, Some, None, map, length, IfOk, OnOk, IsErrOf};
+ghost use Rattle.sim_config.specs.Tables.{PartTable};
+ghost use Rattle.part_kind.specs.Part.{part_own};
+ghost use Rattle.plan_rules.specs.Kinds.{port_count};
 ghost use Rattle.sim_config.specs.declared.fault.TableNo.{TableNo};
 ghost use Rattle.plan_rules.specs.declared.rule.PlanRule.{PlanRule};
 ghost use Rattle.plan_rules.specs.First.{first_broken};
-ghost use Rattle.plan_check.specs.Plan.{plan_of};
+ghost use Rattle.plan_check.specs.Programs.{first_unmapped};
+ghost use Rattle.plan_check.specs.Plan.{parts_to, plan_of};
 
 use crate::fields::all_fields;
 use crate::links::all_links;
 use crate::names::{link_names, part_names};
 use crate::parts::all_parts;
 use crate::ports::{all_own, all_ports};
+use crate::programs::{Programs, data_maps};
+use crate::unmapped::{Unmapped, first_unmapped};
 use elf_load::Image;
 use part_kind::{LinkKind, Part};
 use plan_rules::{Numbered, PlanFault, check};
@@ -17,13 +23,39 @@ use sim_config::PlanText;
 use std::alloc::Global;
 use tick_law::Plan;
 
-/// The plan of a text that breaks no rule.
-fn plan_of(alloc: Global, numbered: &Numbered) -> Result<Plan<Part, LinkKind>, OutOfMemory>
-    requires { first_broken numbered.now ≡ None }
-    ensures { IfOk result (λ plan. plan ≡ plan_of numbered.now) }
+/// All parts, with the bytes of programs in their places.
+fn loaded_parts(
+    alloc: Global,
+    numbered: &Numbered,
+    images: &[Image],
+) -> Result<Vec<Part>, OutOfMemory>
+    requires kept { first_broken numbered.now ≡ None }
+    requires count { length images.now ≡ length numbered.now.programs }
+
+    ensures parts { IfOk result (λ v. v.items ≡ parts_to numbered.now images.now (length numbered.now.parts)) }
+    ensures own { IfOk result (λ v. map part_own v.items ≡ map (λ (p : PartTable). port_count p.kind) numbered.now.parts) }
+{
+    let maps = data_maps(alloc, numbered)?;
+    let programs = Programs {
+        maps: &maps,
+        images,
+    };
+    all_parts(alloc, numbered, &programs)
+}
+
+/// The plan of a text that breaks no rule, with these programs.
+fn plan_of(
+    alloc: Global,
+    numbered: &Numbered,
+    images: &[Image],
+) -> Result<Plan<Part, LinkKind>, OutOfMemory>
+    requires kept { first_broken numbered.now ≡ None }
+    requires count { length images.now ≡ length numbered.now.programs }
+
+    ensures { IfOk result (λ plan. plan ≡ plan_of numbered.now images.now) }
 {
     let text = numbered.text();
-    let parts = all_parts(alloc, numbered)?;
+    let parts = loaded_parts(alloc, numbered, images)?;
     let links = all_links(alloc, numbered)?;
     let part_names = part_names(alloc, text.parts.items())?;
     let link_names = link_names(alloc, text.links.items())?;
@@ -42,22 +74,30 @@ fn plan_of(alloc: Global, numbered: &Numbered) -> Result<Plan<Part, LinkKind>, O
     })
 }
 
-/// The plan that a configuration means, or the first rule of plans that it breaks. `images` has the program of each program
-/// table in order. No core exists yet, so that each program breaks a rule: no image is looked at, and `Unmapped` never comes.
+/// The plan that a configuration means with its programs, or the first rule of plans that it or one of them breaks. `images` has
+/// the program of each program table in order.
 pub fn build(
     alloc: Global,
     text: &PlanText,
     images: &[Image],
 ) -> Result<Plan<Part, LinkKind>, PlanFault>
-    ensures plan { IfOk result (λ plan. plan ≡ plan_of text.now) }
+    requires count { length images.now ≡ length text.now.programs }
 
-    // A plan comes exactly where no rule is broken, and else the first broken rule with its first table.
+    ensures plan { IfOk result (λ plan. plan ≡ plan_of text.now images.now) }
+
+    // A plan comes exactly where no rule is broken, and else the first broken rule with its first table; where only the rule on
+    // segments is, the first segment that breaks it.
     ensures accepted { OnOk result (first_broken text.now ≡ None) }
+    ensures mapped { OnOk result (first_unmapped text.now images.now ≡ None) }
     ensures broken { (rule : PlanRule) (table : TableNo) → IsErrOf result (PlanFault.Broken rule table)
         → first_broken text.now ≡ Some (record { rule = rule; table = table }) }
-    ensures unmapped { (program at : ℕ) → ¬ IsErrOf result (PlanFault.Unmapped program at) }
+    ensures unbroken { (program at : ℕ) → IsErrOf result (PlanFault.Unmapped program at) → first_broken text.now ≡ None }
+    ensures unmapped { (program at : ℕ) → IsErrOf result (PlanFault.Unmapped program at)
+        → first_unmapped text.now images.now ≡ Some (record { program = program; at = at }) }
 {
-    let _programs = images.len();
     let numbered = check(alloc, text)?;
-    Ok(plan_of(alloc, &numbered)?)
+    if let Some(Unmapped { program, at }) = first_unmapped(&numbered, images) {
+        return Err(PlanFault::Unmapped { program, at });
+    }
+    Ok(plan_of(alloc, &numbered, images)?)
 }

@@ -41,6 +41,10 @@ part_no text name = position (λ (p : PartTable). bytes_eq p.name name) text.par
 abbrev pub map_no : PlanTables → List ℕ → Option ℕ
 map_no text name = position (λ (m : MapTable). bytes_eq m.name name) text.maps
 
+-- the first program of a core of this name
+abbrev pub program_no : PlanTables → List ℕ → Option ℕ
+program_no text name = position (λ (p : ProgramTable). bytes_eq p.core name) text.programs
+
 -- the ranges of the map of a name
 abbrev pub ranges_by : PlanTables → List ℕ → List RangeTable
 ranges_by text name = ranges_of (map_no text name >>= slice_get text.maps)

@@ -35,7 +35,7 @@ fn end_at(ranges: &[RangeText], byte: u64) -> Option<u64>
 
 /// Whether some of so many bytes from the first on is in none of the ranges.
 #[tactic(auto, unfolding(crate::specs::Rules::is_uncovered))]
-pub(crate) fn is_uncovered(ranges: &[RangeText], first: u32, count: u64) -> bool
+pub fn is_uncovered(ranges: &[RangeText], first: u32, count: u64) -> bool
     requires { count ≤ 4294967296 }
     ensures { result ≡ rules.is_uncovered ranges.now first count }
 {

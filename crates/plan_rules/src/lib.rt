@@ -22,6 +22,7 @@ mod wire_rules;
 
 pub use breach::Breach;
 pub use checked::check;
+pub use covers::is_uncovered;
 pub use fault::PlanFault;
 pub use kinds::{port_count, port_words};
 pub use limits::{MOST_LINKS, MOST_MAPS, MOST_MEMORY, MOST_PARTS, MOST_PORTS, MOST_PROGRAMS};

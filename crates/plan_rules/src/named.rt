@@ -1,6 +1,6 @@
 //! Tables of a name.
 ghost use Rattle.std.specs.Prelude.{◌≡◌, ◌<◌, ◌≤◌, length, take, bytes_eq, IfSome};
-ghost use Rattle.plan_rules.specs.Text.{part_no, map_no};
+ghost use Rattle.plan_rules.specs.Text.{part_no, map_no, program_no};
 ghost use Rattle.plan_rules.specs.Rules as rules;
 
 use sim_base::Name;
@@ -52,6 +52,17 @@ pub(crate) fn map_no(text: &PlanText, name: &Name) -> Option<usize>
         .items()
         .iter()
         .position(|map| is_same(&map.name, name))
+}
+
+/// The number of the first program of a core of this name.
+pub(crate) fn program_no(text: &PlanText, core: &Name) -> Option<usize>
+    ensures value { result ≡ program_no text.now core.now }
+    ensures within { IfSome result (λ p. p < length text.now.programs) }
+{
+    text.programs
+        .items()
+        .iter()
+        .position(|program| is_same(&program.core, core))
 }
 
 pub(crate) fn has_part(parts: &[PartText], name: &Name) -> bool

@@ -5,7 +5,7 @@ ghost use Rattle.plan_rules.specs.Numbers.{IsFew};
 ghost use Rattle.plan_rules.specs.Text as spec;
 ghost use Rattle.plan_rules.specs.Rules.{targets_at, ports_at, keys_of, link_of, is_port};
 
-use crate::named::{map_no, part_no};
+use crate::named::{map_no, part_no, program_no};
 use crate::numbers::{all_targets, first_ports, link_ports};
 use sim_base::{Name, OutOfMemory};
 use sim_config::{PartKeys, PlanText, RangeText};
@@ -139,6 +139,24 @@ impl<'a> Numbered<'a> {
             Some(map) => map.ranges.items(),
             None => &[],
         }
+    }
+
+    /// The ranges of the map of a name, none where there is no such map.
+    pub fn ranges_by(&self, name: &Name) -> &'a [RangeText]
+        ensures { result.now ≡ spec.ranges_by self.now name.now }
+    {
+        match map_no(self.text, name) {
+            Some(map) => self.ranges(map),
+            None => &[],
+        }
+    }
+
+    /// The number of the first program of a core of this name.
+    pub fn program_no(&self, core: &Name) -> Option<usize>
+        ensures value { result ≡ spec.program_no self.now core.now }
+        ensures within { IfSome result (λ p. p < length self.now.programs) }
+    {
+        program_no(self.text, core)
     }
 
     /// The parts that each range of a map leads to.

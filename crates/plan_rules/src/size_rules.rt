@@ -3,15 +3,14 @@ ghost use Rattle.std.specs.Prelude.{◌≡◌, ◌+◌, ◌≤◌, length, optio
 ghost use Rattle.std.specs.List.{list_any};
 ghost use Rattle.sim_config.specs.Tables.{AreKeys, PartTable};
 ghost use Rattle.plan_rules.specs.Kinds as kinds;
-ghost use Rattle.plan_rules.specs.Text.{passes, keys_at, ranges_at, ranges_by};
+ghost use Rattle.plan_rules.specs.Text.{passes, keys_at, ranges_at};
 ghost use Rattle.plan_rules.specs.Rules as rules;
 
 use crate::covers::{is_uncovered, overlaps};
 use crate::kinds::memory_bytes;
 use crate::limits::MOST_MEMORY;
-use crate::named::{front, map_no};
+use crate::named::front;
 use crate::numbered::Numbered;
-use sim_base::Name;
 use sim_config::{PartKeys, PartText, PlanText, RangeText, TableNo};
 
 fn overlaps_one(ranges: &[RangeText], range: &RangeText) -> bool
@@ -46,16 +45,6 @@ pub(crate) fn map_overlap(plan: &Numbered, table: TableNo) -> bool
     }
 }
 
-/// The ranges of the map of a name, none where there is no such map.
-fn ranges_by<'a>(plan: &Numbered<'a>, name: &Name) -> &'a [RangeText]
-    ensures { result.now ≡ ranges_by plan.now name.now }
-{
-    match map_no(plan.text(), name) {
-        Some(map) => plan.ranges(map),
-        None => &[],
-    }
-}
-
 /// Whether a range is not within the memory, or not covered by the cache's map, that it leads to.
 fn is_outside(plan: &Numbered, range: &RangeText, keys: Option<&PartKeys>) -> bool
     ensures { result ≡ rules.is_outside plan.now range.now (option_map (λ k. k.now) keys.entry) }
@@ -66,7 +55,7 @@ fn is_outside(plan: &Numbered, range: &RangeText, keys: Option<&PartKeys>) -> bo
             !(*base <= range.base && end <= u64::from(*base) + u64::from(*size))
         }
         Some(PartKeys::Cache { map, .. }) => {
-            is_uncovered(ranges_by(plan, map), range.base, range.size)
+            is_uncovered(plan.ranges_by(map), range.base, range.size)
         }
         Some(PartKeys::Relay { .. } | PartKeys::Agent { .. } | PartKeys::Core { .. }) | None => {
             false
@@ -105,7 +94,7 @@ fn asks_outside(plan: &Numbered, keys: &PartKeys) -> bool
             base,
             span,
             ..
-        } => is_uncovered(ranges_by(plan, map), *base, *span),
+        } => is_uncovered(plan.ranges_by(map), *base, *span),
         _ => false,
     }
 }

@@ -13,7 +13,7 @@ use Rattle.model_laws.proofs.OneMoreActor.{length-scatter, scatter_other, scatte
 use Rattle.port_msg.specs.PortView.{PortView, port_view}
 use Rattle.port_row.specs.declared.face.Face.{Face}
 use Rattle.port_row.specs.Row.{PortsView, no_face, port_at, face_at, face_of, NoChange, IsNextTouched}
-use Rattle.port_rows.specs.Rows.{RowsView, held_at, by_number, AreRows, ports_in, seen_in, rows_view, IsSeated, NoChangeAt, IsNextAt}
+use Rattle.port_rows.specs.Rows.{RowsView, held_at, by_number, AreRows, ports_in, seen_in, rows_view, IsSeated, NoChangeAt, IsNextAt, with_row, row_of_link}
 
 -- where a number of a list stands is its place
 pub place_is : (xs : List ℕ) (k : ℕ) → AllApart xs → k < length xs → place (get_or xs k 0) xs ≡ k
@@ -443,3 +443,34 @@ row_found {rows} {w} {places} {v} {j} {row} is e b r =
       long = ap (λ (x : PortsView). length x.ports) was ∙ row_long rows w places j is;
       gathers = ap (λ (x : PortsView). x.ports) was ∙ row_gathers rows w places j is ∙ ap (λ (x : RowsView). gather x.ports (own_of x.wires j)) e;
     }
+
+-- a row is another as long, with what was seen of it
+pub row_put : {rows : List PortsView} {w : Wires} {places : List ℕ} {v : RowsView} {j : ℕ} → IsSeated rows w places → rows_view rows w ≡ v → j < length rows → (new : PortsView) → length new.ports ≡ length (own_of w j) → length new.seen ≡ length (own_of w j) → IsChanged rows w places j new (with_row v j new)
+row_put {rows} {w} {places} {v} {j} is e here new long seen =
+    record {
+      seated = record {
+        ports_are = subst (λ l. AreRows l w) (sym (map-set (λ (r : PortsView). r.ports) rows j new)) (rows_kept (ports_in rows) w j new.ports is.ports_are long);
+        seen_are = subst (λ l. AreRows l w) (sym (map-set (λ (r : PortsView). r.seen) rows j new)) (rows_kept (seen_in rows) w j new.seen is.seen_are seen);
+        wired = is.wired;
+        owners = is.owners;
+        tabled = is.tabled;
+        places_are = is.places_are;
+      };
+      view =
+          view_made _ _ _ _ w
+          (ap (λ l. by_number l w (port_view [] [] 0)) (map-set (λ (r : PortsView). r.ports) rows j new) ∙ row_changed (ports_in rows) w (port_view [] [] 0) j new.ports is.wired (omega (arith, here, length-map rows (λ (r : PortsView). r.ports))) long)
+          (ap (λ l. by_number l w no_face) (map-set (λ (r : PortsView). r.seen) rows j new) ∙ row_changed (seen_in rows) w no_face j new.seen is.wired (omega (arith, here, length-map rows (λ (r : PortsView). r.seen))) seen)
+          ∙ ap (λ (x : RowsView). with_row x j new) e;
+    }
+
+-- a row is what its owner's numbers gather, with what was seen of it
+pub row_gone : {rows : List PortsView} {w : Wires} {places : List ℕ} {v : RowsView} {j : ℕ} {row : PortsView} → IsSeated rows w places → rows_view rows w ≡ v → IsRowOf rows w v j row → row ≡ row_of_link v j
+row_gone {rows} {w} {places} {v} {j} {row} is e r =
+    row_made row.ports _ row.seen _ r.gathers
+    (ap (λ (x : PortsView). x.seen) r.row_is
+    ∙ sym (seen_row rows j)
+    ∙ row_is (seen_in rows) w no_face j is.wired is.seen_are
+    ∙ ap (λ (x : RowsView). map (λ q. face_at x.seen q) (own_of x.wires j)) e)
+  where
+    row_made : (a b : List PortView) (c d : List Face) → a ≡ b → c ≡ d → let x : PortsView = record { ports = a; seen = c } in let y : PortsView = record { ports = b; seen = d } in x ≡ y
+    row_made a b c d f g = cc

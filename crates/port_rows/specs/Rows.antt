@@ -42,6 +42,14 @@ settled_at v q = record v { seen = slice_set v.seen q (face_of (port_at v.ports 
 abbrev pub link_own : RowsView → ℕ → List ℕ
 link_own v j = own_of v.wires j
 
+-- the row of a link is another, with what was seen of it
+abbrev pub with_row : RowsView → ℕ → PortsView → RowsView
+with_row v j row = record v { ports = scatter v.ports (own_of v.wires j) row.ports; seen = scatter v.seen (own_of v.wires j) row.seen }
+
+-- the row of a link, with what was seen of it
+abbrev pub row_of_link : RowsView → ℕ → PortsView
+row_of_link v j = record { ports = gather v.ports (own_of v.wires j); seen = map (λ q. face_at v.seen q) (own_of v.wires j) }
+
 -- the step that an actor makes with the ports of these numbers, at a cycle
 abbrev pub step_with : {S : Type 0} → Machine S → S → RowsView → List ℕ → ℕ → Outcome S
 step_with m s v own n = m.step s (gather v.ports own) n

@@ -1,6 +1,7 @@
 //! All ports of a world, in the rows of its links: a link steps where its row stands, and a part borrows its ports from rows.
 #![tactic(auto)]
 
+mod hands;
 mod opening;
 mod rows;
 mod side;
@@ -8,7 +9,7 @@ mod side;
 mod tests;
 mod world;
 
-pub use opening::hollow_rows;
+pub use hands::open_hands;
 pub use rows::PortRows;
 pub use side::SideOf;
 pub use world::World;

@@ -4,7 +4,7 @@ ghost use Rattle.tick_law.specs.Wires.{own_of, owner_of, Has, AllApart};
 ghost use Rattle.tick_law.specs.Pass.{port_at, gather};
 ghost use Rattle.port_row.specs.Row.{with_ports, with_port};
 ghost use Rattle.port_rows.specs.Opening.{IsSide};
-ghost use Rattle.port_rows.specs.Rows.{other_face, are_parts, IsNextAt, settled_rows, settled_with, with_number, with_own, settled_at, link_own, step_with, link_step, after_step, after_link, IsAsLong, shows_other, NoChangeFrom};
+ghost use Rattle.port_rows.specs.Rows.{other_face, are_parts, IsNextAt, settled_rows, settled_with, with_number, with_own, with_row, row_of_link, settled_at, link_own, step_with, link_step, after_step, after_link, IsAsLong, shows_other, NoChangeFrom};
 
 use crate::opening::{hollow_rows, places_of};
 use crate::side::SideOf;
@@ -106,8 +106,8 @@ impl PortRows {
         self.rows[seat.link].exchange(seat.place, hand, k);
     }
 
-    /// Exchanges these ports for those of another row, each for the one at its place.
-    fn lend(&mut self, own: &[u32], hand: &mut Ports)
+    /// Exchanges these ports for those of another row, each for the one at its place. What was seen of them stays.
+    pub fn lend(&mut self, own: &[u32], hand: &mut Ports)
         requires within { (q : ℕ) → Has own.now q → q < length self.old.ports }
         requires same { length own.now ≡ length hand.old.ports }
         requires apart { AllApart own.now }
@@ -119,6 +119,17 @@ impl PortRows {
             left -= 1;
             self.exchange(own[left], hand, left);
         }
+    }
+
+    /// Exchanges the row of a link for another one of as many ports, with what was seen of them.
+    pub fn swap_row(&mut self, no: u32, hand: &mut Ports)
+        requires here { no < length self.old.wires.own }
+        requires same { length hand.old.ports ≡ length (link_own self.old no) }
+        requires seen { length hand.old.seen ≡ length (link_own self.old no) }
+        ensures here { self.new ≡ with_row self.old no hand.old }
+        ensures there { hand.new ≡ row_of_link self.old no }
+    {
+        std::mem::swap(&mut self.rows[no as usize], hand);
     }
 
     /// A link steps with its row where it stands.

@@ -7,11 +7,11 @@ use crate::gear::Gear;
 use crate::names::plan_names;
 use crate::opened::Opened;
 use crate::ports::open_ports;
-use crate::tables::{all_known, periods};
+use crate::tables::{all_known, first_beat, periods};
 use crate::wires::{link_wiring, part_wiring};
 use actor_turn::side::SideGear;
 use port_msg::RecList;
-use port_rows::{World, hollow_rows};
+use port_rows::{World, open_hands};
 use sim_base::OutOfMemory;
 use std::alloc::Global;
 use tick_law::{Actor, Plan};
@@ -43,6 +43,7 @@ fn part_side<P: Actor + Drop, N: Actor + Drop>(
         wiring,
         periods,
         first: 0,
+        beat: first_beat(&plan.parts),
     })
 }
 
@@ -62,6 +63,7 @@ fn link_side<P: Actor + Drop, N: Actor + Drop>(
         wiring,
         periods,
         first: plan.parts.len() as u32,
+        beat: first_beat(&plan.links),
     })
 }
 
@@ -78,7 +80,7 @@ fn open_gear<P: Actor + Drop, N: Actor + Drop>(
     all_known(&plan.links);
     let parts = part_side(alloc, plan)?;
     let links = link_side(alloc, plan)?;
-    let hands = hollow_rows(alloc, &parts.wiring)?;
+    let hands = open_hands(alloc, &parts.wiring)?;
     let recs = RecList::open(alloc, most_records(plan.ports.len() as u32))?;
     Ok(Gear {
         parts,

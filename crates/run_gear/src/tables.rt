@@ -1,5 +1,6 @@
 ghost use Rattle.std.specs.Prelude.{◌≡◌, ℕ, map, IfOk, Some, slice_get};
 
+use actor_turn::beat::Beat;
 use sim_base::OutOfMemory;
 use std::alloc::Global;
 use tick_law::Actor;
@@ -13,6 +14,14 @@ pub fn periods<S: Actor>(alloc: Global, actors: &[S]) -> Result<Vec<u64>, OutOfM
         periods.push(actor.period())?;
     }
     Ok(periods)
+}
+
+/// The first edge of the first actor's clock.
+pub fn first_beat<S: Actor>(actors: &[S]) -> Beat {
+    match actors.first() {
+        Some(actor) => Beat::of(actor.period()),
+        None => Beat::of(1),
+    }
 }
 
 /// Tells contracts that these states are ones that the actors can be in.

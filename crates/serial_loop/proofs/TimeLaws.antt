@@ -31,7 +31,7 @@ use Rattle.model_laws.proofs.WokenByPorts.{any_same}
 use Rattle.port_row.specs.Row.{face_at, face_of}
 use Rattle.port_row.proofs.RowLaws.{face-map}
 use Rattle.port_rows.specs.Rows.{RowsView, other_face}
-use Rattle.port_rows.specs.Opening.{AreLong}
+use Rattle.port_rows.specs.Opening.{AreHands}
 use Rattle.port_rows.specs.declared.world.World.{World}
 use Rattle.actor_turn.specs.Act.{ActState, side, whole, side_acting, places_acting, parts_acting, links_acting}
 use Rattle.actor_turn.specs.Side.{edge_of, AreInOrder}
@@ -296,7 +296,7 @@ module _ {P N : Type 0} where
     fitted = subst (λ n. Fitted (system_from mp mn plan start) vp vn n n new.parts.periods.items new.links.periods.items) (sym room)
         (subst (λ (s : SideGear). Fitted (system_from mp mn plan start) vp vn g.recs.room g.recs.room s.periods.items new.links.periods.items) (sym parts)
         (subst (λ (s : SideGear). Fitted (system_from mp mn plan start) vp vn g.recs.room g.recs.room g.parts.periods.items s.periods.items) (sym links) is.fitted));
-    hands_are = subst (λ l. AreLong l (part_wires plan) (length start.world.parts)) (sym hands) is.hands_are;
+    hands_are = subst (λ l. AreHands l (part_wires plan) (length start.world.parts)) (sym hands) is.hands_are;
     enough = omega (arith, is.enough, room);
     part_short = is.part_short;
     link_short = is.link_short;

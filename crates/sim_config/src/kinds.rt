@@ -15,7 +15,7 @@ pub(crate) enum PartKind {
 pub(crate) const CACHES_ARE_BUILT: bool = false;
 
 /// Whether there are cores yet.
-pub(crate) const CORES_ARE_BUILT: bool = false;
+pub(crate) const CORES_ARE_BUILT: bool = true;
 
 /// The kinds of links.
 #[derive(Clone, Copy)]

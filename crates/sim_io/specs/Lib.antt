@@ -1,3 +1,4 @@
+pub mod HostFiles
 pub mod MemFiles
 pub mod MemSink
 pub mod Sink

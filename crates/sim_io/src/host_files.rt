@@ -1,6 +1,7 @@
 ghost use Rattle.std.specs.Prelude.{◌≡◌, ◌≢◌, ℕ, ◌+◌, ◌<◌, ◌≤◌, ◌↔◌, List, [], ◌++◌, None, false, Err, IfOk, OnOk, ◌⊎◌, vec_len};
 ghost use Rattle.std.specs.Io.KnownBytes.{Consumes, IsAtEnd};
 ghost use Rattle.sim_io.specs.Sink.{Rose};
+ghost use Rattle.sim_io.specs.HostFiles.{IsReadWhole};
 
 use crate::files::{FileFault, Files};
 use std::alloc::Global;
@@ -35,7 +36,8 @@ fn read_some<R: Read>(reader: &mut R, bytes: &mut Vec<u8>, most: usize) -> Resul
 
     ensures few { vec_len bytes.new ≤ vec_len bytes.old + most }
     ensures not_too_long { result ≢ Err FileFault.TooLong }
-    ensures got { OnOk result ((got : List ℕ) × (bytes.new.items ≡ bytes.old.items ++ got) × Consumes (R.remaining reader.old) (R.remaining reader.new) got) }
+    ensures got { OnOk result ((got : List ℕ) × (bytes.new.items ≡ bytes.old.items ++ got)
+        × Consumes (R.remaining reader.old) (R.remaining reader.new) got) }
     ensures end { IfOk result (λ more. more ≡ false → IsAtEnd (R.remaining reader.new)) }
 {
     let mut chunk = [0; CHUNK];
@@ -57,8 +59,10 @@ fn read_up_to<R: Read>(reader: &mut R, bytes: &mut Vec<u8>, limit: usize) -> Res
 
     ensures few { vec_len bytes.new ≤ limit + 1 }
     ensures not_too_long { result ≢ Err FileFault.TooLong }
-    ensures got { OnOk result (Consumes (R.remaining reader.old) (R.remaining reader.new) bytes.new.items) }
-    ensures end { OnOk result ((limit < vec_len bytes.new) ⊎ IsAtEnd (R.remaining reader.new)) }
+    ensures got { OnOk result
+        (Consumes (R.remaining reader.old) (R.remaining reader.new) bytes.new.items) }
+    ensures end { OnOk result
+        ((limit < vec_len bytes.new) ⊎ IsAtEnd (R.remaining reader.new)) }
 {
     for _turn in 0..u64::MAX {
         if bytes.len() > limit {
@@ -73,7 +77,7 @@ fn read_up_to<R: Read>(reader: &mut R, bytes: &mut Vec<u8>, limit: usize) -> Res
 }
 
 impl<R: fs::Files> HostFiles<R> {
-    /// Reads the file into `bytes` and keeps how many came.
+    /// Reads the file into `bytes` and keeps how many came. They are all that some file of the host had left.
     fn read_into(&mut self, bytes: &mut Vec<u8>, name: &str, limit: usize) -> Result<(), FileFault>
         requires empty { bytes.now.items ≡ [] }
 
@@ -81,6 +85,8 @@ impl<R: fs::Files> HostFiles<R> {
         ensures few { vec_len bytes.new ≤ limit + 1 }
         ensures too_long { (result ≡ Err FileFault.TooLong) ↔ (limit < vec_len bytes.new) }
         ensures faults { self.new.faults ≡ self.old.faults }
+        ensures read { OnOk result ((first : R.File) × (last : R.File)
+            × IsReadWhole (R.File.remaining first) (R.File.remaining last) bytes.new.items) }
     {
         self.came = 0;
         let Ok(mut file) = fs::open(&self.host, name) else {
@@ -103,8 +109,18 @@ impl<R: fs::Files> Files for HostFiles<R> {
     ghost came = { λ s. s.came };
 
     /// A file that cannot be opened, or whose reading ends in an error other than an interruption, has failed. At most one byte
-    /// beyond the limit is read.
-    fn read_file(&mut self, alloc: Global, name: &str, limit: usize) -> Result<Vec<u8>, FileFault> {
+    /// beyond the limit is read. What is answered is all that some file of the host had left.
+    fn read_file(&mut self, alloc: Global, name: &str, limit: usize) -> Result<Vec<u8>, FileFault>
+        ensures whole { IfOk result (λ bytes. vec_len bytes ≡ self.new.came) }
+        ensures within { IfOk result (λ bytes. vec_len bytes ≤ limit) }
+        ensures too_long { (result ≡ Err FileFault.TooLong) ↔ (limit < self.new.came) }
+        ensures failed { result ≡ Err FileFault.Failed → Rose self.old.faults self.new.faults }
+
+        ensures never_falls { self.old.faults ≤ self.new.faults }
+
+        ensures read { IfOk result (λ bytes. (first : R.File) × (last : R.File)
+            × IsReadWhole (R.File.remaining first) (R.File.remaining last) bytes.items) }
+    {
         let mut bytes = Vec::new(alloc);
         match self.read_into(&mut bytes, name, limit) {
             Ok(()) => Ok(bytes),

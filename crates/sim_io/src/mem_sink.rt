@@ -1,5 +1,5 @@
-ghost use Rattle.std.specs.Prelude.{◌≡◌, ◌+◌, ◌-◌, ◌^◌, ◌<◌, ◌≤◌, min, ◌++◌, length, is_ok, is_some, IsErr, OnOk, OnErr, Contains, Some, if◌then◌else◌};
-ghost use Rattle.sim_io.specs.Sink.{Rose, Got, GotPrefix};
+ghost use Rattle.std.specs.Prelude.{◌≡◌, ◌<◌, ◌≤◌, ◌++◌, length, is_ok, is_some, IsErr, OnOk, OnErr, Contains, Some, if◌then◌else◌};
+ghost use Rattle.sim_io.specs.Sink.{Rose, Got, GotPrefix, one_more};
 ghost use Rattle.sim_io.specs.MemSink.{sink_view};
 
 use crate::sink::{Sink, SinkFault};
@@ -44,6 +44,8 @@ impl MemSink {
 }
 
 impl Sink for MemSink {
+    ghost writes = { λ s. s.calls };
+
     ghost faults = { λ s. s.faults };
 
     ghost told = { λ s. Some s.bytes };
@@ -53,16 +55,19 @@ impl Sink for MemSink {
         requires some { 0 < length piece.now }
 
         ensures ok { OnOk result (Got (Some self.old.bytes) (Some self.new.bytes) piece.now) }
-        ensures prefix { OnErr result (GotPrefix (Some self.old.bytes) (Some self.new.bytes) piece.now) }
+        ensures prefix { OnErr result
+            (GotPrefix (Some self.old.bytes) (Some self.new.bytes) piece.now) }
         ensures fault { OnErr result (Rose self.old.faults self.new.faults) }
 
+        ensures counted { self.new.calls ≡ one_more self.old.calls }
         ensures never_falls { self.old.faults ≤ self.new.faults }
         ensures telling { is_some (Some self.new.bytes) ≡ is_some (Some self.old.bytes) }
 
         ensures listed { Contains self.old.fails self.new.calls → IsErr result }
-        ensures bytes { self.new.bytes ≡ (if is_ok result then self.old.bytes ++ piece.now else self.old.bytes) }
-        ensures faults { self.new.faults ≡ (if is_ok result then self.old.faults else min (self.old.faults + 1) (2 ^ 64 - 1)) }
-        ensures calls { self.new.calls ≡ min (self.old.calls + 1) (2 ^ 64 - 1) }
+        ensures bytes { self.new.bytes
+            ≡ (if is_ok result then self.old.bytes ++ piece.now else self.old.bytes) }
+        ensures faults { self.new.faults
+            ≡ (if is_ok result then self.old.faults else one_more self.old.faults) }
         ensures fails { self.new.fails ≡ self.old.fails }
     {
         self.calls = self.calls.saturating_add(1);

@@ -1,6 +1,6 @@
-ghost use Rattle.std.specs.Prelude.{◌≡◌, ℕ, ◌+◌, ◌-◌, ◌^◌, ◌<◌, ◌≤◌, min, length, take, is_ok, true, unwrap_or, OnOk, OnErr, if◌then◌else◌};
+ghost use Rattle.std.specs.Prelude.{◌≡◌, ℕ, ◌<◌, ◌≤◌, length, take, is_ok, true, unwrap_or, OnOk, OnErr, if◌then◌else◌};
 ghost use Rattle.std.specs.Io.KnownBytes.{Appends};
-ghost use Rattle.sim_io.specs.Sink.{Rose};
+ghost use Rattle.sim_io.specs.Sink.{Rose, one_more};
 
 use crate::sink::{Sink, SinkFault};
 use std::io::{ErrorKind, Write};
@@ -9,6 +9,7 @@ use std::io::{ErrorKind, Write};
 #[derive(Drop)]
 pub struct Stream<W> {
     pub writer: W,
+    pub writes: u64,
     pub faults: u64,
 }
 
@@ -47,16 +48,22 @@ fn write_whole<W: Write>(writer: &mut W, piece: &[u8]) -> bool
 }
 
 impl<W: Write> Stream<W> {
-    /// A sink over this writer, whose count is 0.
+    /// A sink over this writer, whose counts are 0.
     pub fn of(writer: W) -> Self
-        ensures { result ≡ record { writer = writer; faults = 0 } }
+        ensures { result ≡ record { writer = writer; writes = 0; faults = 0 } }
     {
-        Stream { writer, faults: 0 }
+        Stream {
+            writer,
+            writes: 0,
+            faults: 0,
+        }
     }
 }
 
 impl<W: Write> Sink for Stream<W> {
     ghost use Rattle.std.specs.Prelude.{None};
+
+    ghost writes = { λ s. s.writes };
 
     ghost faults = { λ s. s.faults };
 
@@ -68,12 +75,15 @@ impl<W: Write> Sink for Stream<W> {
 
         ensures fault { OnErr result (Rose self.old.faults self.new.faults) }
 
+        ensures counted { self.new.writes ≡ one_more self.old.writes }
         ensures never_falls { self.old.faults ≤ self.new.faults }
 
         ensures written { OnOk result (Appends (W.contents self.old.writer) (W.contents self.new.writer) piece.now) }
         ensures begun { OnErr result ((k : ℕ) × Appends (W.contents self.old.writer) (W.contents self.new.writer) (take k piece.now)) }
-        ensures faults { self.new.faults ≡ (if is_ok result then self.old.faults else min (self.old.faults + 1) (2 ^ 64 - 1)) }
+        ensures faults { self.new.faults
+            ≡ (if is_ok result then self.old.faults else one_more self.old.faults) }
     {
+        self.writes = self.writes.saturating_add(1);
         if write_whole(&mut self.writer, piece) {
             return Ok(());
         }

@@ -1,1 +1,4 @@
 pub mod LineLaws
+pub mod RowLaws
+pub mod TaskLaws
+pub mod RegsLaws

@@ -2,9 +2,14 @@
 #![tactic(auto)]
 
 mod lines;
+mod memory_rows;
+mod regs_line;
+mod run_end;
+mod task_lines;
 #[cfg(test)]
 mod tests;
 mod text;
 mod world_report;
 
+pub use run_end::RunEnd;
 pub use world_report::report;

@@ -1,12 +1,16 @@
 ghost use Rattle.std.specs.Prelude.{◌≡◌, ◌++◌, OnOk};
-ghost use Rattle.state_view.specs.Report.{verdict_word, done_word, head_lines, relay_line, agent_line, memory_line, direct_counts, direct_line, part_line, link_line};
+ghost use Rattle.state_view.specs.Report.{verdict_word, done_word, head_lines, relay_line, agent_line, memory_line, cause_word, core_counts, core_line, direct_counts, direct_line, part_line, link_line};
 
+use crate::run_end::RunEnd;
 use crate::text::Text;
 use direct_link::Direct;
 use mem_ctrl::Memory;
 use part_kind::{LinkKind, Part};
-use sim_base::{Name, OutOfMemory, Time};
+use port_msg::Cause;
+use rv_core::Core;
+use sim_base::{Name, OutOfMemory};
 use tick_law::{Actor, Verdict};
+use trace_out::{Line, add_cause};
 use traffic_parts::{Agent, Relay};
 
 fn verdict_word(verdict: Verdict) -> &'static [u8]
@@ -26,20 +30,15 @@ fn done_word(done: bool) -> &'static [u8]
 }
 
 /// The lines `verdict V`, `end T` and `budget B`.
-pub fn put_head(
-    text: &mut Text,
-    verdict: Verdict,
-    end: Time,
-    budget: Time,
-) -> Result<(), OutOfMemory>
-    ensures { OnOk result (text.new ≡ text.old ++ head_lines verdict end.0 budget.0) }
+pub fn put_head(text: &mut Text, run: RunEnd) -> Result<(), OutOfMemory>
+    ensures { OnOk result (text.new ≡ text.old ++ head_lines run) }
 {
     text.put(b"verdict ")?;
-    text.put(verdict_word(verdict))?;
+    text.put(verdict_word(run.verdict))?;
     text.put(b"\nend ")?;
-    text.number(end.0)?;
+    text.number(run.end.0)?;
     text.put(b"\nbudget ")?;
-    text.number(budget.0)?;
+    text.number(run.budget.0)?;
     text.put(b"\n")
 }
 
@@ -85,6 +84,40 @@ fn put_memory(text: &mut Text, name: &Name, memory: &Memory) -> Result<(), OutOf
     text.put(b"\n")
 }
 
+/// Why a core halted, or `running`.
+fn put_cause(text: &mut Text, cause: Option<Cause>) -> Result<(), OutOfMemory>
+    ensures { OnOk result (text.new ≡ text.old ++ cause_word cause) }
+{
+    let Some(cause) = cause else {
+        return text.put(b"running");
+    };
+    let mut word = Line::new();
+    add_cause(&mut word, cause);
+    text.put(word.as_slice())
+}
+
+fn put_core_counts(text: &mut Text, core: &Core) -> Result<(), OutOfMemory>
+    ensures { OnOk result (text.new ≡ text.old ++ core_counts core.now) }
+{
+    text.put(b" pc ")?;
+    text.hex(&core.pc().to_be_bytes())?;
+    text.put(b" retired ")?;
+    text.number(core.retired())?;
+    text.put(b"\n")
+}
+
+fn put_core(text: &mut Text, name: &Name, core: &Core) -> Result<(), OutOfMemory>
+    ensures { OnOk result (text.new ≡ text.old ++ core_line name.now core.now) }
+{
+    text.put(b"part ")?;
+    text.put(name.text())?;
+    text.put(b" core ")?;
+    text.put(done_word(core.done()))?;
+    text.put(b" ")?;
+    put_cause(text, core.cause())?;
+    put_core_counts(text, core)
+}
+
 fn put_counts(text: &mut Text, link: &Direct) -> Result<(), OutOfMemory>
     ensures { OnOk result (text.new ≡ text.old ++ direct_counts link.now) }
 {
@@ -111,6 +144,7 @@ pub fn put_part(text: &mut Text, name: &Name, part: &Part) -> Result<(), OutOfMe
         Part::Relay(relay) => put_relay(text, name, relay),
         Part::Agent(agent) => put_agent(text, name, agent),
         Part::Memory(memory) => put_memory(text, name, memory),
+        Part::Core(core) => put_core(text, name, core),
     }
 }
 

@@ -1,13 +1,18 @@
-ghost use Rattle.std.specs.Prelude.{◌≤◌};
+ghost use Rattle.std.specs.Prelude.{◌≡◌, ◌+◌, ◌^◌, ◌<◌, ◌≤◌, length};
 
+use crate::RunEnd;
 use crate::lines::{put_head, put_part};
+use crate::memory_rows::put_memory_rows;
+use crate::task_lines::put_tasks;
 use crate::text::Text;
 use addr_map::Ranges;
 use mem_ctrl::{Memory, MemoryText};
 use part_kind::Part;
-use sim_base::{ActorNo, Body, Mode, Name, OutOfMemory, PortNo, Time};
+use port_msg::{Msg, MsgId, MsgKind, RecList, What};
+use sim_base::{ActorNo, Body, Mode, Name, OutOfMemory, PartNo, PortNo, Time};
 use std::alloc::Global;
 use std::test::Fail;
+use task_stats::Stats;
 use tick_law::Verdict;
 use traffic_parts::{Agent, AgentText};
 
@@ -32,20 +37,22 @@ fn open_agent(alloc: Global, count: u32) -> Result<Part, OutOfMemory>
     Ok(Part::Agent(Agent::open(alloc, &text)?))
 }
 
-/// A memory of 64 bytes in which no request waits.
-fn open_memory(alloc: Global) -> Result<Part, OutOfMemory> {
-    let bytes: Vec<u8> = vec![in alloc; 0; 64]?;
+/// A memory of these bytes from an address on, in which no request waits.
+fn open_memory(alloc: Global, base: u32, bytes: &[u8]) -> Result<Memory, OutOfMemory>
+    requires few { length bytes.now ≤ 64 }
+    requires low { base ≤ 1000 }
+{
     let text = MemoryText {
         actor: ActorNo(1),
         period: 1000,
         top: PortNo(1),
-        base: 0,
-        size: 64,
+        base,
+        size: bytes.len() as u32,
         latency: 1,
         depth: 4,
-        bytes: Body::of(bytes),
+        bytes: Body::of(Vec::from_slice(alloc, bytes)?),
     };
-    Ok(Part::Memory(Memory::open(alloc, &text)?))
+    Memory::open(alloc, &text)
 }
 
 #[test]
@@ -54,12 +61,72 @@ fn agents_and_memories_have_their_lines(rt: HostRuntime) -> Result<(), Fail> {
     let a = Name::read(b"a").ok_or("a name")?;
     let m = Name::read(b"m").ok_or("a name")?;
     let mut text = Text::new(alloc);
-    put_head(&mut text, Verdict::Stuck, Time(1), Time(100))?;
+    let run = RunEnd {
+        budget: Time(100),
+        verdict: Verdict::Stuck,
+        end: Time(1),
+    };
+    put_head(&mut text, run)?;
     put_part(&mut text, &a, &open_agent(alloc, 3)?)?;
     put_part(&mut text, &a, &open_agent(alloc, 0)?)?;
-    put_part(&mut text, &m, &open_memory(alloc)?)?;
+    put_part(&mut text, &m, &Part::Memory(open_memory(alloc, 0, &[])?))?;
     let lines =
         "verdict stuck\nend 1\nbudget 100\npart a agent busy issued 0 answered 0 sum 0\npart a agent done issued 0 answered 0 sum 0\npart m memory done served 0\n";
+    assert_eq!(rt; text.into_body().items(), lines.as_bytes());
+    Ok(())
+}
+
+#[test]
+fn a_row_of_sixteen_bytes_is_shown_where_one_is_not_zero(rt: HostRuntime) -> Result<(), Fail> {
+    let alloc = rt.alloc();
+    let m = Name::read(b"m").ok_or("a name")?;
+    let mut bytes = [0; 64];
+    bytes[17] = 0xab;
+    bytes[63] = 1;
+    let mut text = Text::new(alloc);
+    put_memory_rows(&mut text, &m, &open_memory(alloc, 64, &bytes)?)?;
+    put_memory_rows(&mut text, &m, &open_memory(alloc, 56, &bytes)?)?;
+    put_memory_rows(&mut text, &m, &open_memory(alloc, 1, &[1])?)?;
+    let rows =
+        "mem m 00000050 00ab0000000000000000000000000000\nmem m 00000070 00000000000000000000000000000001\nmem m 00000040 000000000000000000ab000000000000\n";
+    assert_eq!(rt; text.into_body().items(), rows.as_bytes());
+    Ok(())
+}
+
+fn read(kind: MsgKind) -> Msg {
+    Msg {
+        id: MsgId {
+            part: PartNo(1),
+            seq: 0,
+        },
+        src: PortNo(0),
+        dst: PortNo(1),
+        kind,
+        addr: 0,
+        len: 4,
+        bytes: [0; 64],
+    }
+}
+
+#[test]
+fn each_agent_has_a_line_of_its_tasks(rt: HostRuntime) -> Result<(), Fail> {
+    let alloc = rt.alloc();
+    let m = Name::read(b"m").ok_or("a name")?;
+    let a = Name::read(b"a").ok_or("a name")?;
+    let b = Name::read(b"b").ok_or("a name")?;
+    let memory = Part::Memory(open_memory(alloc, 0, &[])?);
+    let parts = vec![in alloc; memory, open_agent(alloc, 1)?, open_agent(alloc, 1)?]?;
+    let mut stats = Stats::open(alloc, 3)?;
+    let mut recs = RecList::open(alloc, 2)?;
+    recs.begin(Time(1000), ActorNo(1));
+    recs.push(What::Send(read(MsgKind::Read)));
+    recs.begin(Time(6000), ActorNo(1));
+    recs.push(What::Take(read(MsgKind::ReadRsp)));
+    stats.add(&recs);
+    let mut text = Text::new(alloc);
+    put_tasks(&mut text, &[m, a, b], &parts, &stats)?;
+    let lines =
+        "task a begun 1 ended 1 sum 5000 greatest 5000\ntask b begun 0 ended 0 sum 0 greatest 0\n";
     assert_eq!(rt; text.into_body().items(), lines.as_bytes());
     Ok(())
 }

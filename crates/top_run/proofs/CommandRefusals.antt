@@ -1,14 +1,16 @@
 -- Where the words behind the first word of a command are refused.
 use Rattle.std.proofs.Common.{◌≡◌, ◌≢◌, ℕ, zero, suc, ◌+◌, ◌<◌, ◌≤◌, List, [], ◌∷◌, ◌++◌, length, take, drop, codes, flat_map, refl, sym, ap, ◌∙◌, subst, arith}
-use Rattle.std.specs.Prelude.{Option, Some, None, slice_get, get_or}
+use Rattle.std.specs.Prelude.{Option, Some, None, Bool, true, false, slice_get, get_or}
 use Rattle.std.specs.Fmt.{decimal}
 use Rattle.std.proofs.lemmas.Fmt.{decimal_injective}
 use Rattle.sim_base.specs.declared.time.Time.{Time}
 use Rattle.top_run.specs.declared.command.Ring.{Ring}
 use Rattle.top_run.specs.declared.command.Options.{Options}
+use Rattle.top_run.specs.declared.command.Detail.{Detail}
+use Rattle.top_run.specs.declared.command.Detail.TheVariants.{Dump}
 use Rattle.top_run.specs.declared.command.Command.{Command}
 use Rattle.top_run.specs.declared.command.Command.TheVariants as commands
-use Rattle.top_run.specs.Words.{latest, InRange, IsFile, Setting, Until, setting_words, IsAllowed, IsFree, with_setting, Lead, AreSettings, IsAccepted, no_options, AreRing, AreFile, AreFileAndOptions, command_word, IsBehind, IsRing, IsOneFile, IsFileAndOptions, HasOptions, IsRefusedFrom, IsNumberAt}
+use Rattle.top_run.specs.Words.{latest, InRange, IsFile, Setting, Until, Shows, setting_words, detail_word, has_detail, with_detail, IsAllowed, IsFree, with_setting, Lead, AreSettings, IsAccepted, no_options, AreRing, AreFile, AreFileAndOptions, command_word, IsBehind, IsRing, IsOneFile, IsFileAndOptions, HasOptions, IsRefusedFrom, IsNumberAt}
 use Rattle.top_run.proofs.WordRefusals.{from_here, from_behind, from_same, drop_at}
 
 abbrev pub ring_of : ℕ → ℕ → Ring
@@ -165,14 +167,24 @@ behind_run_file words file k at good r = from_behind IsFileAndOptions (HasOption
         (options, subst (λ l. AreSettings no_options options l) (sym tail) settings)
 
 -- options
-pub no_option : (words : List (List ℕ)) (options : Options) (place k : ℕ) → k ≡ place + 1 → place < length words → (slice_get words place ≡ Some (codes "--until") → options.until ≡ None → ⊥) → IsRefusedFrom (HasOptions options) words place k
-no_option words options place k e b other = from_here (HasOptions options) words place k [] (options, ([], refl, refl)) e (λ is. b) not
+pub detail_same : (d e : Detail) → detail_word d ≡ detail_word e → d ≡ e
+detail_same Dump Dump is = refl
+
+-- a word that asks for a detail differs from `--until` at its third byte
+pub not_until : {A : Type 0} (d : Detail) → detail_word d ≡ codes "--until" → A
+not_until Dump e = let third : 100 ≡ 117 = ap (λ l. get_or l 2 0) e in absurd (omega (arith, third))
+
+pub no_option : (words : List (List ℕ)) (options : Options) (place k : ℕ) → k ≡ place + 1 → place < length words → (slice_get words place ≡ Some (codes "--until") → options.until ≡ None → ⊥) → ((d : Detail) → slice_get words place ≡ Some (detail_word d) → has_detail options d ≡ false → ⊥) → IsRefusedFrom (HasOptions options) words place k
+no_option words options place k e b other none = from_here (HasOptions options) words place k [] (options, ([], refl, refl)) e (λ is. b) not
   where
     not : (v : List ℕ) (t : List (List ℕ)) → HasOptions options (v ∷ t) → slice_get words place ≡ Some v → ⊥
     not v t (after, ([], is, lead)) at = absurd (cc)
     not v t (after, (Until n ∷ ss, is, lead)) at =
         let head : v ≡ codes "--until" = cc in
         other (at ∙ ap (λ x. Some x) head) lead.0
+    not v t (after, (Shows d ∷ ss, is, lead)) at =
+        let head : v ≡ detail_word d = cc in
+        none d (at ∙ ap (λ x. Some x) head) lead.0
 
 -- a time and options behind it
 abbrev pub IsTimeAndOptions : Options → List (List ℕ) → Type 0
@@ -190,6 +202,7 @@ behind_until words options place k at free r = from_behind (HasOptions options) 
     off t (after, (Until n ∷ ss, is, lead)) =
         let tail : t ≡ decimal n ∷ flat_map setting_words ss = cc in
         (n, flat_map setting_words ss, tail, lead.1, (after, (ss, refl, lead.2)))
+    off t (after, (Shows d ∷ ss, is, lead)) = let head : codes "--until" ≡ detail_word d = cc in not_until d (sym head)
 
 pub no_until : (words : List (List ℕ)) (options : Options) (place k : ℕ) → k ≡ place + 1 → ((n : ℕ) → IsNumberAt words place 0 latest n → ⊥) → IsRefusedFrom (IsTimeAndOptions options) words place k
 no_until words options place k e other = from_here (IsTimeAndOptions options) words place k _ (0, [], refl, omega arith, (_, ([], refl, refl))) e ended not
@@ -219,6 +232,32 @@ behind_number words options place n k number r = from_behind (IsTimeAndOptions o
 pub one_more_option : (words : List (List ℕ)) (options after : Options) (place n : ℕ) → options.until ≡ None → IsNumberAt words (suc place) 0 latest n → drop place words ≡ codes "--until" ∷ decimal n ∷ drop (suc (suc place)) words → AreSettings (with_setting options (Until n)) after (drop (suc (suc place)) words) → AreSettings options after (drop place words)
 one_more_option words options after place n free number e (ss, is, lead) =
     (Until n ∷ ss, e ∙ ap (λ l. codes "--until" ∷ decimal n ∷ l) is, (free, number.within, lead))
+
+-- a detail is asked for, and options behind that are refused
+pub detail_from : (words : List (List ℕ)) (options : Options) (place k : ℕ) (d : Detail) → slice_get words place ≡ Some (detail_word d) → has_detail options d ≡ false → IsRefusedFrom (HasOptions (with_detail options d)) words (place + 1) k → IsRefusedFrom (HasOptions options) words place k
+detail_from words options place k d at free r =
+    let one : place + 1 ≡ suc place = omega arith in
+    from_behind (HasOptions options) (HasOptions (with_detail options d)) (detail_word d) words place k at put off (subst (λ p. IsRefusedFrom (HasOptions (with_detail options d)) words p k) one r)
+  where
+    put : (t : List (List ℕ)) → HasOptions (with_detail options d) t → HasOptions options (detail_word d ∷ t)
+    put t (after, (ss, e, lead)) = (after, (Shows d ∷ ss, ap (λ l. detail_word d ∷ l) e, (free, tt, lead)))
+
+    off : (t : List (List ℕ)) → HasOptions options (detail_word d ∷ t) → HasOptions (with_detail options d) t
+    off t (after, ([], is, lead)) = absurd (cc)
+    off t (after, (Until n ∷ ss, is, lead)) = let head : detail_word d ≡ codes "--until" = cc in not_until d head
+    off t (after, (Shows e ∷ ss, is, lead)) =
+        let head : detail_word e ≡ detail_word d = cc in
+        let tail : t ≡ flat_map setting_words ss = cc in
+        (after, (ss, tail, subst (λ x. Lead (with_detail options x) ss after) (detail_same e d head) lead.2))
+
+-- and options behind that are made
+pub detail_settings_from : (words : List (List ℕ)) (options after : Options) (place : ℕ) (d : Detail) → slice_get words place ≡ Some (detail_word d) → has_detail options d ≡ false → AreSettings (with_detail options d) after (drop (place + 1) words) → AreSettings options after (drop place words)
+detail_settings_from words options after place d at free settings =
+    let one : place + 1 ≡ suc place = omega arith in
+    behind (subst (λ p. AreSettings (with_detail options d) after (drop p words)) one settings)
+  where
+    behind : AreSettings (with_detail options d) after (drop (suc place) words) → AreSettings options after (drop place words)
+    behind (ss, is, lead) = (Shows d ∷ ss, drop_at words place (detail_word d) at ∙ ap (λ l. detail_word d ∷ l) is, (free, tt, lead))
 
 -- some command is accepted
 pub some_check : IsAccepted (codes "check" ∷ codes "a" ∷ [])

@@ -5,4 +5,3 @@ pub mod Causes
 pub mod Shown
 pub mod Telling
 pub mod Spelling
-pub mod Lineless

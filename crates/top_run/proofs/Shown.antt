@@ -3,7 +3,10 @@ use Rattle.std.proofs.Common.{◌≡◌, ℕ, zero, suc, List, length, refl, sym
 use Rattle.tick_law.specs.SerialLoop.{System, WorldState, world_at}
 use Rattle.tick_law.specs.PlanView.{PlanView}
 use Rattle.tick_law.specs.declared.verdict.Verdict.{Verdict}
+use Rattle.std.specs.Prelude.{Bool, None}
+use Rattle.trace_out.specs.Names.{NamesView}
 use Rattle.state_view.specs.Report.{report_of}
+use Rattle.state_view.specs.declared.run_end.RunEnd.{RunEnd}
 use Rattle.model_laws.proofs.OneMoreActor.{length-map_index}
 use Rattle.part_kind.specs.declared.part.Part.{Part}
 use Rattle.part_kind.specs.declared.link_kind.LinkKind.{LinkKind}
@@ -28,11 +31,13 @@ pub link_count : (plan : PlanView Part LinkKind) (t : ℕ) (w : WorldState Part 
 link_count plan t w names e is count =
     ap length e ∙ count ∙ sym (links_stay (loop_of plan) t) ∙ sym (ap (λ (v : WorldState Part LinkKind). length v.links) is)
 
+abbrev pub end_of : ℕ → Verdict → ℕ → RunEnd
+end_of budget verdict end = record { budget = record { 0 = budget }; verdict = verdict; end = record { 0 = end } }
+
 -- a report of the same things is the same
-pub report_same : (a b c d : List (List ℕ)) (budget : ℕ) (v w : WorldState Part LinkKind) (x y : Verdict) (e f : ℕ) → a ≡ b → c ≡ d → v ≡ w → x ≡ y → e ≡ f → report_of a c budget v x e ≡ report_of b d budget w y f
-report_same a b c d budget v w x y e f names links world verdict end =
-    ap (λ z. report_of z c budget v x e) names
-    ∙ ap (λ z. report_of b z budget v x e) links
-    ∙ ap (λ z. report_of b d budget z x e) world
-    ∙ ap (λ z. report_of b d budget w z e) verdict
-    ∙ ap (λ z. report_of b d budget w y z) end
+pub report_same : (a b : NamesView) (budget : ℕ) (v w : WorldState Part LinkKind) (x y : Verdict) (e f : ℕ) (dump : Bool) → a ≡ b → v ≡ w → x ≡ y → e ≡ f → report_of a v (end_of budget x e) None dump ≡ report_of b w (end_of budget y f) None dump
+report_same a b budget v w x y e f dump names world verdict end =
+    ap (λ z. report_of z v (end_of budget x e) None dump) names
+    ∙ ap (λ z. report_of b z (end_of budget x e) None dump) world
+    ∙ ap (λ z. report_of b w (end_of budget z e) None dump) verdict
+    ∙ ap (λ z. report_of b w (end_of budget y z) None dump) end

@@ -7,13 +7,15 @@ use Rattle.sim_base.specs.declared.time.Time.{Time}
 use Rattle.sim_io.specs.Sink.{Got}
 use Rattle.top_run.specs.declared.command.Ring.{Ring}
 use Rattle.top_run.specs.declared.command.Options.{Options}
+use Rattle.top_run.specs.declared.command.Detail.{Detail}
+use Rattle.top_run.specs.declared.command.Detail.TheVariants.{Dump}
 use Rattle.top_run.specs.declared.command.Command.{Command}
 use Rattle.top_run.specs.declared.command.Command.TheVariants as commands
 use Rattle.top_run.specs.declared.job.Job.{Job}
-use Rattle.top_run.specs.Words.{latest, InRange, Setting, Until, setting_words, with_setting, no_options, Lead, AreSettings, AreRing, command_word, AreBehind, Accepts, RefusedAt}
+use Rattle.top_run.specs.Words.{latest, InRange, Setting, Until, Shows, setting_words, detail_word, with_detail, with_setting, no_options, Lead, AreSettings, AreRing, command_word, AreBehind, Accepts, RefusedAt}
 use Rattle.top_run.specs.Job.{Rule, job_for, told_for, Means, IsTold, IsWithin}
 use Rattle.top_run.specs.Top.{engine_of, job_status, job_written, HasRun, SomeFile, SomeJob, ReadFailed}
-use Rattle.top_run.proofs.CommandRefusals.{ring_of, differ}
+use Rattle.top_run.proofs.CommandRefusals.{ring_of, differ, detail_same, not_until}
 
 -- the same numbers
 ring_same : (rest : List (List ℕ)) (r q : Ring) → AreRing r rest → AreRing q rest → r ≡ q
@@ -28,6 +30,14 @@ ring_same rest r q (e, a) (f, b) =
 settings_same : (ss tt : List Setting) (before o p : Options) → flat_map setting_words ss ≡ flat_map setting_words tt → Lead before ss o → Lead before tt p → o ≡ p
 settings_same [] [] before o p e a b = sym a ∙ b
 settings_same [] (Until m ∷ tt) before o p e a b = absurd (cc)
+settings_same [] (Shows d ∷ tt) before o p e a b = absurd (cc)
+settings_same (Shows d ∷ ss) [] before o p e a b = absurd (cc)
+settings_same (Shows d ∷ ss) (Until m ∷ tt) before o p e a b = let head : detail_word d ≡ codes "--until" = cc in not_until d head
+settings_same (Until n ∷ ss) (Shows d ∷ tt) before o p e a b = let head : codes "--until" ≡ detail_word d = cc in not_until d (sym head)
+settings_same (Shows d ∷ ss) (Shows c ∷ tt) before o p e (_, _, a) (_, _, b) =
+    let head : detail_word d ≡ detail_word c = cc in
+    let rest : flat_map setting_words ss ≡ flat_map setting_words tt = cc in
+    settings_same ss tt (with_detail before c) o p rest (subst (λ x. Lead (with_detail before x) ss o) (detail_same d c head) a) b
 settings_same (Until n ∷ ss) [] before o p e a b = absurd (cc)
 settings_same (Until n ∷ ss) (Until m ∷ tt) before o p e (_, within, a) (_, near, b) =
     let first : decimal n ≡ decimal m = cc in
@@ -107,10 +117,15 @@ pub not_failed : {A : Type 0} {X : Command → Type 0} (words : List (List ℕ))
 not_failed words first last c accepts calm (d, taken, is) =
     absurd (calm (subst (λ e. ReadFailed first last e) (accepted_same words d c taken accepts) is.0))
 
+-- a detail leaves the budget as it is
+detail_within : (d : Detail) (o : Options) → IfSome o.until (λ t. t.0 ≤ latest) → IfSome (with_detail o d).until (λ t. t.0 ≤ latest)
+detail_within Dump o is = is
+
 -- the budget that a command gives is one that files may have
 within_from : (ss : List Setting) (before after : Options) → Lead before ss after → IfSome before.until (λ t. t.0 ≤ latest) → IfSome after.until (λ t. t.0 ≤ latest)
 within_from [] before after e is = subst (λ (o : Options). IfSome o.until (λ t. t.0 ≤ latest)) e is
 within_from (Until n ∷ ss) before after (free, near, lead) is = within_from ss (with_setting before (Until n)) after lead near
+within_from (Shows d ∷ ss) before after (free, near, lead) is = within_from ss (with_detail before d) after lead (detail_within d before is)
 
 pub accepted_within : (words : List (List ℕ)) (c : Command) → Accepts words c → IsWithin c
 accepted_within words (commands.Ring r) (rest, e, (f, range)) = range

@@ -1,5 +1,5 @@
 -- What an object got of lines and reports.
-use Rattle.std.specs.Prelude.{ℕ, ◌≤◌, List, [], ◌++◌, Option, None, Result, Ok, Err, OnOk, OnErr}
+use Rattle.std.specs.Prelude.{ℕ, ◌≤◌, List, [], ◌++◌, Option, None, Result, Ok, Err, IfOk, OnOk, OnErr}
 use Rattle.std.proofs.Common.{◌≡◌, inl, inr, subst}
 use Rattle.sim_io.specs.Sink.{Rose, Got, GotPrefix}
 use Rattle.trace_out.proofs.Writing.{Got-more}
@@ -13,6 +13,11 @@ use Rattle.top_run.specs.Top.{check_line, FailedBehind, IsFaultOfRun, IsFaultOfJ
 pub told_line : {A B : Type 0} (r : Result A B) (old new : Option (List ℕ)) (before after : ℕ) (line : List ℕ) → OnOk r (Got old new line) → OnErr r (GotPrefix old new line) → OnErr r (Rose before after) → Told line old new before after
 told_line (Ok x) old new before after line got prefix rose = inl got
 told_line (Err e) old new before after line got prefix rose = inr (rose, prefix)
+
+-- what is true of the value of a result
+pub of_ok : {A E : Type 0} (r : Result A E) (x : A) (P : A → Type 0) → r ≡ Ok x → IfOk r P → P x
+of_ok (Ok y) x P e h = let same : y ≡ x = cc in subst P same h
+of_ok (Err f) x P e h = absurd (cc)
 
 -- the lines and then the report
 pub all_written : (old mid new : Option (List ℕ)) (lines report bytes : List ℕ) → Got old mid lines → bytes ≡ report → Got mid new bytes → Got old new (lines ++ report)

@@ -2,7 +2,7 @@
 use Rattle.std.proofs.Common.{◌≡◌, ℕ, zero, suc, ◌+◌, ◌<◌, ◌≤◌, List, [], ◌∷◌, length, take, drop, codes, refl, sym, ap, ◌∙◌, subst, arith}
 use Rattle.std.specs.Prelude.{Some, None, slice_get, String, get_or, Result, Ok, Err, IfOk, IfErr}
 use Rattle.std.specs.Global.{Global}
-use Rattle.top_run.specs.Words.{spelled, Shares, IsRefused, IsRefusedFrom, IsAccepted, IsBehind, RefusedAt, command_word, AreBehind, IsUsage}
+use Rattle.top_run.specs.Words.{spelled, Shares, IsRefusedAs, IsRefusedFrom, IsAccepted, IsBehind, RefusedAt, command_word, AreBehind, IsUsage}
 use Rattle.top_run.specs.declared.command.Command.{Command}
 use Rattle.top_run.specs.declared.refusal.Refusal.{Refusal}
 use Rattle.top_run.specs.declared.refusal.Refusal.TheVariants as refusals
@@ -40,7 +40,7 @@ from_here sort words place k others some e ended other = (
     not [] is same = some_left words place (ended is) same
     not (v ∷ t) is same = other v t is (first_shared words place v t same)
 
-refused_behind : (sort rest_sort : List (List ℕ) → Type 0) (w : List ℕ) (words rest : List (List ℕ)) (k : ℕ) → words ≡ w ∷ rest → ((t : List (List ℕ)) → rest_sort t → sort (w ∷ t)) → ((t : List (List ℕ)) → sort (w ∷ t) → rest_sort t) → IsRefused rest_sort rest (suc k) → IsRefused sort words (suc (suc k))
+refused_behind : (sort rest_sort : List (List ℕ) → Type 0) (w : List ℕ) (words rest : List (List ℕ)) (k : ℕ) → words ≡ w ∷ rest → ((t : List (List ℕ)) → rest_sort t → sort (w ∷ t)) → ((t : List (List ℕ)) → sort (w ∷ t) → rest_sort t) → IsRefusedAs rest_sort rest (suc k) → IsRefusedAs sort words (suc (suc k))
 refused_behind sort rest_sort w words rest k e put off r = record {
   none = λ (t, is, same). not t is (same ∙ ap (take (suc (suc k))) e);
   before = λ j b. sharing j b;
@@ -83,7 +83,7 @@ from_same sort other words place k put off (j, at, r) = (
     given i (t, is, same) = (t, put t is, same)
 
 from_start : (words : List (List ℕ)) (k : ℕ) → IsRefusedFrom IsAccepted words 0 k → RefusedAt words k
-from_start words k (j, at, r) = subst (λ i. IsRefused IsAccepted words i) (let e : suc j ≡ k = omega (arith, at) in e) r
+from_start words k (j, at, r) = subst (λ i. IsRefusedAs IsAccepted words i) (let e : suc j ≡ k = omega (arith, at) in e) r
 
 -- the first word is that of some command, and what stands behind it is refused
 pub behind_word : (w : List ℕ) (words : List (List ℕ)) (k : ℕ) → slice_get words 0 ≡ Some w → IsRefusedFrom (IsBehind w) words 1 k → RefusedAt words k

@@ -12,10 +12,12 @@ use Rattle.part_kind.specs.declared.part.Part.{Part}
 use Rattle.part_kind.specs.declared.link_kind.LinkKind.{LinkKind}
 use Rattle.sim_io.specs.Sink.{Rose, Got, GotPrefix}
 use Rattle.state_view.specs.Report.{report_of}
+use Rattle.state_view.specs.declared.run_end.RunEnd.{RunEnd}
 use Rattle.trace_out.specs.Lines.{lines_of}
 use Rattle.run_gear.specs.PlanNames.{names_of}
 use Rattle.run_gear.specs.declared.fault.RunFault.{RunFault}
 use Rattle.run_gear.specs.declared.fault.RunFault.TheVariants as faults
+use Rattle.top_run.specs.declared.command.Options.{Options}
 use Rattle.top_run.specs.declared.command.Command.{Command}
 use Rattle.top_run.specs.declared.command.Command.TheVariants as commands
 use Rattle.top_run.specs.declared.run.Engine.{Engine}
@@ -35,9 +37,14 @@ loop_of plan = system_of part link plan
 abbrev pub plan_verdict : PlanView Part LinkKind → Verdict
 plan_verdict plan = verdict_at (loop_of plan) plan.until
 
--- the report of that run: of its world behind the last time, its verdict and its ending time
-abbrev pub plan_report : PlanView Part LinkKind → List ℕ
-plan_report plan = report_of plan.part_names plan.link_names plan.until (world_at (loop_of plan) (plan.until + 1)) (plan_verdict plan) (end_at (loop_of plan) plan.until)
+-- how it ends: its budget, its verdict and its ending time
+abbrev pub plan_end : PlanView Part LinkKind → RunEnd
+plan_end plan = record { budget = record { 0 = plan.until }; verdict = plan_verdict plan; end = record { 0 = end_at (loop_of plan) plan.until } }
+
+-- the report of that run: of its world behind the last time, and of its end; with the bytes of the memories where the options ask
+-- for them
+abbrev pub plan_report : Options → PlanView Part LinkKind → List ℕ
+plan_report options plan = report_of (names_of plan) (world_at (loop_of plan) (plan.until + 1)) (plan_end plan) None options.dump
 
 -- the lines of the records of that run below a boundary: those of bytes that cores wrote, at the end of each time
 abbrev pub plan_lines : PlanView Part LinkKind → ℕ → List ℕ
@@ -86,7 +93,7 @@ all_lines engine job = job_lines engine job (job.plan.until + 1)
 -- what it writes behind them: the report, or the line of a check
 abbrev pub job_report : Option Engine → Job → List ℕ
 job_report None job = check_line job
-job_report (Some engine) job = plan_report job.plan
+job_report (Some engine) job = plan_report job.options job.plan
 
 -- all that it writes
 abbrev pub job_written : Option Engine → Job → List ℕ
@@ -172,12 +179,12 @@ abbrev pub SomeFile : List (List ℕ) → (Command → Type 0) → Type 0
 SomeFile words fact = (command : Command) × Accepts words command × fact command
 
 -- the statuses of refusals: of words, of rules and of readings
-abbrev pub IsRefused : ℕ → Type 0
-IsRefused status = (status ≡ 2) ⊎ ((status ≡ 3) ⊎ (status ≡ 5))
+abbrev pub IsRefusal : ℕ → Type 0
+IsRefusal status = (status ≡ 2) ⊎ ((status ≡ 3) ⊎ (status ≡ 5))
 
 -- all statuses
 abbrev pub IsStatus : ℕ → Type 0
-IsStatus status = IsVerdict status ⊎ (IsRefused status ⊎ ((status ≡ 6) ⊎ (status ≡ 8)))
+IsStatus status = IsVerdict status ⊎ (IsRefusal status ⊎ ((status ≡ 6) ⊎ (status ≡ 8)))
 
 -- why a run of words ends in a refusal, for the contents of files and the counts of faults of files and of an object, before and
 -- after

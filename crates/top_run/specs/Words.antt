@@ -1,11 +1,13 @@
 -- The words that the program accepts, and where others are refused.
-use Rattle.std.specs.Prelude.{◌≡◌, ◌≢◌, ℕ, ◌+◌, ◌<◌, ◌≤◌, List, [], ◌∷◌, map, take, drop, flat_map, codes, String, string_bytes, Option, Some, None, slice_get}
+use Rattle.std.specs.Prelude.{◌≡◌, ◌≢◌, ℕ, ◌+◌, ◌<◌, ◌≤◌, List, [], ◌∷◌, map, take, drop, flat_map, codes, String, string_bytes, Option, Some, None, slice_get, Bool, true, false}
 use Rattle.std.specs.Fmt.{decimal}
 use Rattle.std.specs.Global.{Global}
 use Rattle.sim_base.specs.declared.time.Time.{Time}
 use Rattle.std.proofs.Common.{suc}
 use Rattle.top_run.specs.declared.command.Ring.{Ring}
 use Rattle.top_run.specs.declared.command.Options.{Options}
+use Rattle.top_run.specs.declared.command.Detail.{Detail}
+use Rattle.top_run.specs.declared.command.Detail.TheVariants.{Dump}
 use Rattle.top_run.specs.declared.command.Command.{Command}
 use Rattle.top_run.specs.declared.command.Command.TheVariants as commands
 use Rattle.top_run.specs.declared.refusal.Refusal.{Refusal}
@@ -27,25 +29,46 @@ InRange ring = (1 ≤ ring.relays) × (ring.relays ≤ 256) × (ring.until.0 ≤
 abbrev pub IsFile : List ℕ → Type 0
 IsFile name = (first : ℕ) × (slice_get name 0 ≡ Some first) × (first ≢ 45)
 
--- one option
+-- the word that asks for a detail
+abbrev pub detail_word : Detail → List ℕ
+detail_word Dump = codes "--dump"
+
+-- the options ask for it
+abbrev pub has_detail : Options → Detail → Bool
+has_detail options Dump = options.dump
+
+-- the options and this detail beside them
+abbrev pub with_detail : Options → Detail → Options
+with_detail options Dump = record options { dump = true }
+
+-- the options with this greatest time
+abbrev pub with_time : Options → ℕ → Options
+with_time options t = record options { until = Some (record { 0 = t }) }
+
+-- one option: a greatest time, or a detail
 pub data Setting : Type 0 where
   Until : ℕ → Setting
+  Shows : Detail → Setting
 
 -- how it is written
 abbrev pub setting_words : Setting → List (List ℕ)
 setting_words (Until t) = codes "--until" ∷ decimal t ∷ []
+setting_words (Shows detail) = detail_word detail ∷ []
 
 -- its number is in its range
 abbrev pub IsAllowed : Setting → Type 0
 IsAllowed (Until t) = t ≤ latest
+IsAllowed (Shows detail) = Unit {0}
 
 -- nothing was said of it before
 abbrev pub IsFree : Options → Setting → Type 0
 IsFree options (Until t) = options.until ≡ None
+IsFree options (Shows detail) = has_detail options detail ≡ false
 
 -- the options with this one
 abbrev pub with_setting : Options → Setting → Options
-with_setting options (Until t) = record { until = Some (record { 0 = t }) }
+with_setting options (Until t) = with_time options t
+with_setting options (Shows detail) = with_detail options detail
 
 -- settings in any order, each of which is made at most once, lead from some options to others
 abbrev pub Lead : Options → List Setting → Options → Type 0
@@ -57,7 +80,7 @@ abbrev pub AreSettings : Options → Options → List (List ℕ) → Type 0
 AreSettings before after words = (settings : List Setting) × (words ≡ flat_map setting_words settings) × Lead before settings after
 
 abbrev pub no_options : Options
-no_options = record { until = None }
+no_options = record { until = None; dump = false }
 
 -- the numbers of `ring N UNTIL`
 abbrev pub AreRing : Ring → List (List ℕ) → Type 0
@@ -98,17 +121,17 @@ abbrev pub Shares : (List (List ℕ) → Type 0) → ℕ → List (List ℕ) →
 Shares sort k words = (others : List (List ℕ)) × sort others × (take k others ≡ take k words)
 
 -- k is the least number such that no list of a sort has the same first k words
-pub record IsRefused (sort : List (List ℕ) → Type 0) (words : List (List ℕ)) (k : ℕ) : Type 0 where
+pub record IsRefusedAs (sort : List (List ℕ) → Type 0) (words : List (List ℕ)) (k : ℕ) : Type 0 where
   pub none : Shares sort k words → ⊥
   pub before : (j : ℕ) → j < k → Shares sort j words
 
 -- k is the least number such that no accepted list has the same first k words
 abbrev pub RefusedAt : List (List ℕ) → ℕ → Type 0
-RefusedAt words k = IsRefused IsAccepted words k
+RefusedAt words k = IsRefusedAs IsAccepted words k
 
 -- the words from a place on are refused as a list of a sort; k counts all words
 abbrev pub IsRefusedFrom : (List (List ℕ) → Type 0) → List (List ℕ) → ℕ → ℕ → Type 0
-IsRefusedFrom sort words place k = (j : ℕ) × (k ≡ place + suc j) × IsRefused sort (drop place words) (suc j)
+IsRefusedFrom sort words place k = (j : ℕ) × (k ≡ place + suc j) × IsRefusedAs sort (drop place words) (suc j)
 
 -- the word of this place, from 0 on, is this number in decimal, and the number is in the range
 pub record IsNumberAt (words : List (List ℕ)) (place least most n : ℕ) : Type 0 where

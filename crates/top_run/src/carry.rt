@@ -49,7 +49,8 @@ fn check_line(job: &Job) -> Line
 fn write_report<K: Sink>(out: &mut K, report: &[u8]) -> Result<(), Refusal>
     requires some { 0 < length report.now }
     ensures ok { OnOk result (Got (K.told out.old) (K.told out.new) report.now) }
-    ensures fault { OnErr result (Rose (K.faults out.old) (K.faults out.new) × GotPrefix (K.told out.old) (K.told out.new) report.now) }
+    ensures fault { OnErr result (Rose (K.faults out.old) (K.faults out.new)
+        × GotPrefix (K.told out.old) (K.told out.new) report.now) }
     ensures write { IfErr result (λ refusal. refusal ≡ Refusal.Write) }
 {
     out.write(report).map_err(|_| Refusal::Write)
@@ -90,7 +91,7 @@ pub fn carry_out<K: Sink, L: Ledger>(
         check(&job, out)?;
         return Ok(Status(0));
     };
-    let shown = show_run(alloc, engine, job.plan, out, steps)?;
+    let shown = show_run(alloc, engine, job.plan, job.options, out, steps)?;
     write_report(out, shown.report.items())?;
     Ok(Status::of(shown.verdict))
 }

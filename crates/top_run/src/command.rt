@@ -9,11 +9,59 @@ pub struct Ring {
     pub until: Time,
 }
 
+/// What a run shows beyond its report.
+#[derive(Clone, Copy, Debug, PartialEq, Eq)]
+pub enum Detail {
+    /// The bytes of the memories at its end.
+    Dump,
+}
+
 /// The options of a run.
 #[derive(Clone, Copy, Debug, PartialEq, Eq)]
 pub struct Options {
     /// The greatest time that runs in place of the file's, at most 500,000,000,000 ps.
     pub until: Option<Time>,
+    /// Whether the report has the bytes of the memories.
+    pub dump: bool,
+}
+
+impl Options {
+    ghost use Rattle.std.specs.Prelude.{◌≡◌};
+    ghost use Rattle.top_run.specs.Words.{no_options, with_time, has_detail, with_detail};
+
+    /// No option.
+    pub const NONE: Options = Options {
+        until: None,
+        dump: false,
+    };
+
+    /// These options with this greatest time.
+    pub fn with_time(self, until: Time) -> Self
+        ensures { result ≡ with_time self until.0 }
+    {
+        Options {
+            until: Some(until),
+            ..self
+        }
+    }
+
+    /// Whether they ask for this.
+    pub fn has(self, detail: Detail) -> bool
+        ensures { result ≡ has_detail self detail }
+    {
+        match detail {
+            Detail::Dump => self.dump,
+        }
+    }
+
+    /// These options and this beside them.
+    pub fn with(self, detail: Detail) -> Self
+        ensures { result ≡ with_detail self detail }
+    {
+        match detail {
+            Detail::Dump => Options { dump: true, ..self },
+        }
+    }
 }
 
 /// The name of a file, as its word stands.

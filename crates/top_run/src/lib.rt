@@ -12,7 +12,7 @@ mod tests;
 mod top;
 mod words;
 
-pub use command::{Command, FileName, Options, Ring};
+pub use command::{Command, Detail, FileName, Options, Ring};
 pub use job::Job;
 pub use run::Engine;
 pub use status::Status;

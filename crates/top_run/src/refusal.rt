@@ -1,4 +1,4 @@
-ghost use Rattle.std.specs.Prelude.{◌≡◌, IfOk, string_bytes};
+ghost use Rattle.std.specs.Prelude.{◌≡◌, ◌<◌, length, IfOk, string_bytes};
 ghost use Rattle.top_run.specs.Refusals.{usage_line, config_line, plan_line, read_line, write_at_line};
 
 use crate::command::FileName;
@@ -51,14 +51,16 @@ impl From<AllocError> for Refusal {
 
 /// The line of words that are refused.
 pub fn usage_line(alloc: Global, word: usize) -> Result<String, AllocError>
-    ensures { IfOk result (λ line. string_bytes line ≡ usage_line word) }
+    ensures text { IfOk result (λ line. string_bytes line ≡ usage_line word) }
+    ensures some { IfOk result (λ line. 0 < length (string_bytes line)) }
 {
     format!(in alloc; "akita: usage: word {word}\n")
 }
 
 /// The line of a file whose reading failed.
 pub fn read_line(alloc: Global, file: &FileName) -> Result<String, AllocError>
-    ensures { IfOk result (λ line. string_bytes line ≡ read_line file.now) }
+    ensures text { IfOk result (λ line. string_bytes line ≡ read_line file.now) }
+    ensures some { IfOk result (λ line. 0 < length (string_bytes line)) }
 {
     let name = file.as_str();
     format!(in alloc; "akita: read: {name}\n")
@@ -66,14 +68,16 @@ pub fn read_line(alloc: Global, file: &FileName) -> Result<String, AllocError>
 
 /// The line of a file that breaks a rule of configurations.
 pub fn config_line(alloc: Global, fault: ConfigFault) -> Result<String, AllocError>
-    ensures { IfOk result (λ line. string_bytes line ≡ config_line fault) }
+    ensures text { IfOk result (λ line. string_bytes line ≡ config_line fault) }
+    ensures some { IfOk result (λ line. 0 < length (string_bytes line)) }
 {
     format!(in alloc; "akita: config: {fault}\n")
 }
 
 /// The line of a file that breaks a rule of plans.
 pub fn plan_line(alloc: Global, breach: Breach) -> Result<String, AllocError>
-    ensures { IfOk result (λ line. string_bytes line ≡ plan_line breach) }
+    ensures text { IfOk result (λ line. string_bytes line ≡ plan_line breach) }
+    ensures some { IfOk result (λ line. 0 < length (string_bytes line)) }
 {
     let rule = breach.rule;
     let table = breach.table;

@@ -5,14 +5,15 @@ ghost use Rattle.tick_law.specs.Verdict.{end_at};
 ghost use Rattle.sim_io.specs.Sink.{Rose, Got, GotPrefix};
 ghost use Rattle.top_run.specs.Top.{loop_of, plan_verdict, plan_report, plan_lines, plan_steps, refusal_of, IsFaultOfEngine, IsFaultOfRun};
 
+use crate::command::Options;
 use crate::refusal::Refusal;
 use part_kind::{LinkKind, Part};
 use phase_engine::run_plan;
-use run_gear::{Ending, RunFault};
+use run_gear::{Ending, RunFault, plan_names};
 use serial_loop::run_serial;
-use sim_base::{Body, Name, OutOfMemory, Steps};
+use sim_base::{Body, Steps};
 use sim_io::Sink;
-use state_view::report;
+use state_view::{RunEnd, report};
 use std::alloc::Global;
 use std::sync::ledger::Ledger;
 use tick_law::{Plan, Verdict};
@@ -31,12 +32,6 @@ pub enum Engine {
 pub struct Shown {
     pub verdict: Verdict,
     pub report: Body,
-}
-
-fn copied_names(alloc: Global, names: &[Name]) -> Result<Vec<Name>, OutOfMemory>
-    ensures { IfOk result (λ v. v.items ≡ names.now) }
-{
-    Ok(Vec::from_slice(alloc, names)?)
 }
 
 /// The refusal that a fault of a run is.
@@ -61,7 +56,8 @@ fn run_by<K: Sink, L: Ledger>(
     ensures verdict { IfOk result (λ e. e.verdict ≡ plan_verdict plan) }
     ensures end { IfOk result (λ e. e.end.0 ≡ end_at (loop_of plan) plan.until) }
     ensures steps { OnOk result (steps.new ≡ steps.old + plan_steps engine plan (plan.until + 1)) }
-    ensures lines { OnOk result (Got (K.told out.old) (K.told out.new) (plan_lines plan (plan.until + 1))) }
+    ensures lines { OnOk result
+        (Got (K.told out.old) (K.told out.new) (plan_lines plan (plan.until + 1))) }
 
     ensures fault { IfErr result (IsFaultOfEngine
         (λ d. (d ≤ plan.until + 1) × Rose (K.faults out.old) (K.faults out.new)
@@ -81,37 +77,36 @@ pub fn show_run<K: Sink, L: Ledger>(
     alloc: Global,
     engine: Engine,
     plan: Plan<Part, LinkKind>,
+    options: Options,
     out: &mut K,
     steps: &mut Steps<L>,
 ) -> Result<Shown, Refusal>
     ensures verdict { IfOk result (λ shown. shown.verdict ≡ plan_verdict plan) }
-    ensures report { IfOk result (λ shown. shown.report ≡ plan_report plan) }
-    ensures lines { OnOk result (Got (K.told out.old) (K.told out.new) (plan_lines plan (plan.until + 1))) }
+    ensures report { IfOk result (λ shown. shown.report ≡ plan_report options plan) }
+    ensures lines { OnOk result
+        (Got (K.told out.old) (K.told out.new) (plan_lines plan (plan.until + 1))) }
     ensures steps { OnOk result (steps.new ≡ steps.old + plan_steps engine plan (plan.until + 1)) }
 
     ensures fault { IfErr result (IsFaultOfRun
         (λ d. (d ≤ plan.until + 1) × Rose (K.faults out.old) (K.faults out.new)
         × GotPrefix (K.told out.old) (K.told out.new) (plan_lines plan d))
-        ((out.new ≡ out.old) ⊎ Got (K.told out.old) (K.told out.new) (plan_lines plan (plan.until + 1)))) }
+        ((out.new ≡ out.old)
+        ⊎ Got (K.told out.old) (K.told out.new) (plan_lines plan (plan.until + 1)))) }
 
     ensures never_falls { K.faults out.old ≤ K.faults out.new }
 {
-    let part_names = copied_names(alloc, &plan.part_names)?;
-    let link_names = copied_names(alloc, &plan.link_names)?;
+    let names = plan_names(alloc, &plan)?;
     let budget = plan.until;
     let ending = match run_by(alloc, engine, plan, out, steps) {
         Ok(ending) => ending,
         Err(fault) => return Err(refusal_of(fault)),
     };
-    let report = report(
-        alloc,
-        &part_names,
-        &link_names,
+    let end = RunEnd {
         budget,
-        &ending.world,
-        ending.verdict,
-        ending.end,
-    )?;
+        verdict: ending.verdict,
+        end: ending.end,
+    };
+    let report = report(alloc, &names, &ending.world, end, None, options.dump)?;
     Ok(Shown {
         verdict: ending.verdict,
         report,

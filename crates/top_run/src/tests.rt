@@ -117,6 +117,48 @@ fn a_file_is_checked_and_run(rt: HostRuntime) -> Result<(), Fail> {
 }
 
 #[test]
+fn a_dump_has_the_bytes_of_memories(rt: HostRuntime) -> Result<(), Fail> {
+    let alloc = rt.alloc();
+    let held =
+        "version = 1\nuntil = 9\npart = [{name = 'm', kind = 'memory', period = 1, base = 64, size = 64, words = [0, 0, 0, 0, 1, 2]}]\nlink = [{name = 'l', kind = 'direct', period = 1, ports = ['m.top']}]\n";
+    let report =
+        "verdict finished\nend 0\nbudget 7\npart m memory done served 0\nlink l direct moved 0 pointer 0\n";
+    let rows: [(&[&str], u8, bool, &str); 6] = [
+        (&["run", "f", "--until", "7"], 0, false, ""),
+        (&["run", "f", "--until", "7", "--dump"], 0, true, ""),
+        (&["run", "f", "--dump", "--until", "7"], 0, true, ""),
+        (&["slow", "f", "--dump", "--until", "7"], 0, true, ""),
+        (
+            &["run", "f", "--dump", "--dump"],
+            2,
+            false,
+            "akita: usage: word 4\n",
+        ),
+        (
+            &["check", "f", "--dump"],
+            2,
+            false,
+            "akita: usage: word 3\n",
+        ),
+    ];
+    let dumped = format!(in alloc; "{report}mem m 00000050 01000000020000000000000000000000\n")?;
+    for (words, status, dump, err) in rows {
+        let left = ran_file(alloc, words, held.as_bytes())?;
+        assert_eq!(rt; left.status, Some(Status(status)));
+        let out = if status > 0 {
+            ""
+        } else if dump {
+            dumped.as_str()
+        } else {
+            report
+        };
+        assert_eq!(rt; left.out.bytes(), out.as_bytes());
+        assert_eq!(rt; left.err.bytes(), err.as_bytes());
+    }
+    Ok(())
+}
+
+#[test]
 fn a_file_that_breaks_a_rule_is_told(rt: HostRuntime) -> Result<(), Fail> {
     let alloc = rt.alloc();
     let rows: [(&str, u8, &str, &str); 6] = [
@@ -165,6 +207,52 @@ fn a_file_that_breaks_a_rule_is_told(rt: HostRuntime) -> Result<(), Fail> {
         left.err.bytes(),
         b"akita: config: too-long top\n".as_slice()
     );
+    Ok(())
+}
+
+/// A machine of one core and one memory, which begins with these words.
+fn core_machine(alloc: Global, words: &str) -> Result<String, AllocError> {
+    let head =
+        "version = 1\nuntil = 1000000\nmap = [{name = 'x', range = [{base = 0, size = 512, to = ['m']}]}]\npart = [{name = 'c', kind = 'core', period = 1000, inst = 'x', data = 'x'}, {name = 'm', kind = 'memory', period = 1000, base = 0, size = 512, words = [";
+    let tail =
+        "]}]\nlink = [{name = 'l', kind = 'direct', period = 1000, ports = ['c.inst', 'c.data', 'm.top']}]\n";
+    format!(in alloc; "{head}{words}{tail}")
+}
+
+#[test]
+fn a_core_runs_the_words_of_a_memory(rt: HostRuntime) -> Result<(), Fail> {
+    let alloc = rt.alloc();
+    let rows: [(&str, &str); 5] = [
+        (
+            "0xFF800293, 0x4012D313, 0xFFF2B393, 0x00A30513, 0x00750533, 0x10400113, 0xFEA12E23, 0xFFC12503, 0x05D00893, 0x02D00093, 0x00008067, 0x00000073",
+            "verdict finished\nend 55000\nbudget 1000000\npart c core done exit 7 pc 0000002c retired 12\npart m memory done served 14\nlink l direct moved 28 pointer 1\n",
+        ),
+        (
+            "0x00200093, 0x0000A103",
+            "verdict finished\nend 7000\nbudget 1000000\npart c core done misaligned-load pc 00000004 retired 1\npart m memory done served 2\nlink l direct moved 4 pointer 1\n",
+        ),
+        (
+            "0x800000B7, 0x0000A023",
+            "verdict finished\nend 7000\nbudget 1000000\npart c core done unmapped-store pc 00000004 retired 1\npart m memory done served 2\nlink l direct moved 4 pointer 1\n",
+        ),
+        (
+            "0x00000001",
+            "verdict finished\nend 3000\nbudget 1000000\npart c core done illegal pc 00000000 retired 0\npart m memory done served 1\nlink l direct moved 2 pointer 2\n",
+        ),
+        (
+            "0x00100893, 0x04800513, 0x00000073, 0x05D00893, 0x00000513, 0x00000073",
+            "11000 out c 48\nverdict finished\nend 23000\nbudget 1000000\npart c core done exit 0 pc 00000014 retired 6\npart m memory done served 6\nlink l direct moved 12 pointer 0\n",
+        ),
+    ];
+    for (words, out) in rows {
+        let machine = core_machine(alloc, words)?;
+        for command in ["run", "slow"] {
+            let left = ran_file(alloc, &[command, "f"], machine.as_bytes())?;
+            assert_eq!(rt; left.status, Some(Status(0)));
+            assert_eq!(rt; left.out.bytes(), out.as_bytes());
+            assert_eq!(rt; left.err.bytes(), b"".as_slice());
+        }
+    }
     Ok(())
 }
 

@@ -1,99 +1,48 @@
-ghost use Rattle.std.specs.Prelude.{◌≡◌, ◌≢◌, ℕ, ◌<◌, ◌⊎◌, List, [], length, is_some, true, Option, Ok, Err, IfOk, IfErr, IfSome};
+ghost use Rattle.std.specs.Prelude.{◌≡◌, ◌≢◌, ℕ, ◌<◌, ◌⊎◌, List, [], length, string_bytes, is_some, true, Option, Ok, Err, IfOk, IfErr, IfSome};
 ghost use Rattle.sim_io.specs.Sink.{Rose, Got};
 ghost use Rattle.top_run.specs.Words.{spelled, Accepts, IsAccepted, RefusedAt};
 ghost use Rattle.top_run.specs.declared.command.Command.{Command};
 ghost use Rattle.top_run.specs.declared.job.Job.{Job};
-ghost use Rattle.top_run.specs.declared.run.Engine.{Engine};
 ghost use Rattle.top_run.specs.Job.{Rule, Means, IsTold};
 ghost use Rattle.top_run.specs.Refusals.{usage_line, read_line, config_line, plan_line, write_line, write_at_line, memory_line, Told};
 ghost use Rattle.top_run.specs.Top.{engine_of, job_status, all_lines, job_written, HasRun, FailedAt, FailedBehind, ReadFailed, read_line_for, rule_line};
-ghost use Rattle.top_run.specs.Top.{IsVerdict, IsStatus, IsRefused, SomeJob, SomeFile, IsCause, IsUnwritten, IsUnread, IsUnreported};
+ghost use Rattle.top_run.specs.Top.{IsVerdict, IsStatus, IsRefusal, SomeJob, SomeFile, IsCause, IsUnwritten, IsUnread, IsUnreported};
 
 use crate::carry::{carry_out, engine_of};
-use crate::command::FileName;
 use crate::job::read_job;
 use crate::refusal::{Refusal, config_line, plan_line, read_line, usage_line, write_at_line};
 use crate::status::Status;
 use crate::words::read_words;
-use plan_rules::Breach;
 use sim_base::{Steps, Time};
-use sim_config::ConfigFault;
 use sim_io::{Files, Sink};
-use std::alloc::Global;
+use std::alloc::{AllocError, Global};
 use std::sync::ledger::Ledger;
 
 /// Writes a line of a refusal. A failure is told to nobody.
 fn tell<E: Sink>(err: &mut E, line: &[u8])
     requires some { 0 < length line.now }
-    ensures { Told line.now (E.told err.old) (E.told err.new) (E.faults err.old) (E.faults err.new) }
+    ensures { Told line.now
+        (E.told err.old) (E.told err.new) (E.faults err.old) (E.faults err.new) }
 {
     let _ = err.write(line);
 }
 
-/// Tells of words that are refused, and answers its status; where no memory is found for the line, that is told instead.
-fn tell_usage<E: Sink>(alloc: Global, err: &mut E, word: usize) -> Status
-    ensures either { (result.0 ≡ 2) ⊎ (result.0 ≡ 8) }
-    ensures line { result.0 ≡ 2 → Told (usage_line word) (E.told err.old) (E.told err.new) (E.faults err.old) (E.faults err.new) }
-    ensures memory { result.0 ≡ 8 → Told memory_line (E.told err.old) (E.told err.new) (E.faults err.old) (E.faults err.new) }
-{
-    match usage_line(alloc, word) {
-        Ok(line) => {
-            tell(err, line.as_bytes());
-            Status(2)
-        }
-        Err(_) => {
-            tell(err, b"akita: memory\n");
-            Status(8)
-        }
-    }
-}
+/// Tells of a refusal by its line, and answers its status; where no memory was found for the line, that is told instead.
+fn tell_made<E: Sink>(err: &mut E, line: Result<String, AllocError>, status: Status) -> Status
+    requires some { IfOk line (λ text. 0 < length (string_bytes text)) }
+    requires other { status.0 ≢ 8 }
 
-/// Tells of a file whose reading failed, and answers its status; where no memory is found for the line, that is told instead.
-fn tell_read<E: Sink>(alloc: Global, err: &mut E, file: &FileName) -> Status
-    ensures either { (result.0 ≡ 5) ⊎ (result.0 ≡ 8) }
-    ensures line { result.0 ≡ 5 → Told (read_line file.now) (E.told err.old) (E.told err.new) (E.faults err.old) (E.faults err.new) }
-    ensures memory { result.0 ≡ 8 → Told memory_line (E.told err.old) (E.told err.new) (E.faults err.old) (E.faults err.new) }
+    ensures either { (result.0 ≡ status.0) ⊎ (result.0 ≡ 8) }
+    ensures line { result.0 ≡ status.0 → (bytes : List ℕ)
+        → IfOk line (λ text. string_bytes text ≡ bytes)
+        → Told bytes (E.told err.old) (E.told err.new) (E.faults err.old) (E.faults err.new) }
+    ensures memory { result.0 ≡ 8
+        → Told memory_line (E.told err.old) (E.told err.new) (E.faults err.old) (E.faults err.new) }
 {
-    match read_line(alloc, file) {
-        Ok(line) => {
-            tell(err, line.as_bytes());
-            Status(5)
-        }
-        Err(_) => {
-            tell(err, b"akita: memory\n");
-            Status(8)
-        }
-    }
-}
-
-/// Tells of a broken rule of configurations, and answers its status; where no memory is found for the line, that is told instead.
-fn tell_config<E: Sink>(alloc: Global, err: &mut E, fault: ConfigFault) -> Status
-    ensures either { (result.0 ≡ 3) ⊎ (result.0 ≡ 8) }
-    ensures line { result.0 ≡ 3 → Told (config_line fault) (E.told err.old) (E.told err.new) (E.faults err.old) (E.faults err.new) }
-    ensures memory { result.0 ≡ 8 → Told memory_line (E.told err.old) (E.told err.new) (E.faults err.old) (E.faults err.new) }
-{
-    match config_line(alloc, fault) {
-        Ok(line) => {
-            tell(err, line.as_bytes());
-            Status(3)
-        }
-        Err(_) => {
-            tell(err, b"akita: memory\n");
-            Status(8)
-        }
-    }
-}
-
-/// Tells of a broken rule of plans, and answers its status; where no memory is found for the line, that is told instead.
-fn tell_plan<E: Sink>(alloc: Global, err: &mut E, breach: Breach) -> Status
-    ensures either { (result.0 ≡ 3) ⊎ (result.0 ≡ 8) }
-    ensures line { result.0 ≡ 3 → Told (plan_line breach) (E.told err.old) (E.told err.new) (E.faults err.old) (E.faults err.new) }
-    ensures memory { result.0 ≡ 8 → Told memory_line (E.told err.old) (E.told err.new) (E.faults err.old) (E.faults err.new) }
-{
-    match plan_line(alloc, breach) {
-        Ok(line) => {
-            tell(err, line.as_bytes());
-            Status(3)
+    match line {
+        Ok(text) => {
+            tell(err, text.as_bytes());
+            status
         }
         Err(_) => {
             tell(err, b"akita: memory\n");
@@ -104,7 +53,8 @@ fn tell_plan<E: Sink>(alloc: Global, err: &mut E, breach: Breach) -> Status
 
 /// Writes the line that tells of a line of the run that was not written.
 fn tell_write_at<E: Sink>(err: &mut E, upto: Time)
-    ensures { Told (write_at_line upto.0) (E.told err.old) (E.told err.new) (E.faults err.old) (E.faults err.new) }
+    ensures { Told (write_at_line upto.0)
+        (E.told err.old) (E.told err.new) (E.faults err.old) (E.faults err.new) }
 {
     tell(err, write_at_line(upto).as_slice());
 }
@@ -119,8 +69,9 @@ fn run_words<F: Files, K: Sink, L: Ledger>(
     ensures ran { IfOk result (λ s. HasRun (F.contents files.old) (spelled words.now) s.0
         (K.told out.old) (K.told out.new) steps.old steps.new) }
 
-    ensures fault { IfErr result (IsCause (F.contents files.old) (F.faults files.old) (F.faults files.new)
-        (spelled words.now) (K.faults out.old) (K.faults out.new) (K.told out.old) (K.told out.new)) }
+    ensures fault { IfErr result (IsCause
+        (F.contents files.old) (F.faults files.old) (F.faults files.new) (spelled words.now)
+        (K.faults out.old) (K.faults out.new) (K.told out.old) (K.told out.new)) }
     ensures unwritten { IfErr result (IsUnwritten (out.new ≡ out.old)) }
     ensures unread { IfErr result (IsUnread (files.new ≡ files.old)) }
     ensures unreported { IfErr result (IsUnreported ((out.new ≡ out.old)
@@ -153,7 +104,8 @@ pub fn plain<F: Files, K: Sink, E: Sink, L: Ledger>(
     ensures statuses { IfSome result (λ s. IsStatus s.0) }
 
     ensures ran { IfSome result (λ s. IsVerdict s.0
-        → HasRun (F.contents files.old) (spelled words.now) s.0 (K.told out.old) (K.told out.new) steps.old steps.new) }
+        → HasRun (F.contents files.old) (spelled words.now) s.0
+        (K.told out.old) (K.told out.new) steps.old steps.new) }
     ensures silent { IfSome result (λ s. IsVerdict s.0 → err.new ≡ err.old) }
     ensures complete { (command : Command) (job : Job) → Accepts (spelled words.now) command
         → IsTold (F.contents files.old) command (Ok job)
@@ -163,22 +115,27 @@ pub fn plain<F: Files, K: Sink, E: Sink, L: Ledger>(
         × Got (K.told out.old) (K.told out.new) (job_written (engine_of command) job))) }
 
     ensures usage { IfSome result (λ s. s.0 ≡ 2 → (k : ℕ) × RefusedAt (spelled words.now) k
-        × Told (usage_line k) (E.told err.old) (E.told err.new) (E.faults err.old) (E.faults err.new)) }
-    ensures refused { (IsAccepted (spelled words.now) → ⊥) → IfSome result (λ s. (s.0 ≡ 2) ⊎ (s.0 ≡ 8)) }
+        × Told (usage_line k)
+        (E.told err.old) (E.told err.new) (E.faults err.old) (E.faults err.new)) }
+    ensures refused { (IsAccepted (spelled words.now) → ⊥)
+        → IfSome result (λ s. (s.0 ≡ 2) ⊎ (s.0 ≡ 8)) }
     ensures accepted { IsAccepted (spelled words.now) → IfSome result (λ s. s.0 ≢ 2) }
 
     ensures read { IfSome result (λ s. s.0 ≡ 5 → SomeFile (spelled words.now) (λ command.
         ReadFailed (F.faults files.old) (F.faults files.new) command
-        × Told (read_line_for command) (E.told err.old) (E.told err.new) (E.faults err.old) (E.faults err.new))) }
+        × Told (read_line_for command)
+        (E.told err.old) (E.told err.new) (E.faults err.old) (E.faults err.new))) }
 
-    ensures rule { IfSome result (λ s. s.0 ≡ 3 → (rule : Rule) × SomeFile (spelled words.now) (λ command.
+    ensures rule { IfSome result (λ s. s.0 ≡ 3
+        → (rule : Rule) × SomeFile (spelled words.now) (λ command.
         Means (F.contents files.old) command (Err rule))
-        × Told (rule_line rule) (E.told err.old) (E.told err.new) (E.faults err.old) (E.faults err.new)) }
+        × Told (rule_line rule)
+        (E.told err.old) (E.told err.new) (E.faults err.old) (E.faults err.new)) }
     ensures broken { (command : Command) (rule : Rule) → Accepts (spelled words.now) command
         → IsTold (F.contents files.old) command (Err rule)
         → (ReadFailed (F.faults files.old) (F.faults files.new) command → ⊥)
         → IfSome result (λ s. (s.0 ≡ 3) ⊎ (s.0 ≡ 8)) }
-    ensures unwritten { IfSome result (λ s. IsRefused s.0 → out.new ≡ out.old) }
+    ensures unwritten { IfSome result (λ s. IsRefusal s.0 → out.new ≡ out.old) }
 
     ensures write { IfSome result (λ s. s.0 ≡ 6 → Rose (K.faults out.old) (K.faults out.new)
         × ((SomeJob (F.contents files.old) (spelled words.now) (λ command job.
@@ -186,22 +143,23 @@ pub fn plain<F: Files, K: Sink, E: Sink, L: Ledger>(
         × Told write_line (E.told err.old) (E.told err.new) (E.faults err.old) (E.faults err.new))
         ⊎ ((d : ℕ) × SomeJob (F.contents files.old) (spelled words.now) (λ command job.
         FailedAt (engine_of command) job (K.told out.old) (K.told out.new) d)
-        × Told (write_at_line d) (E.told err.old) (E.told err.new) (E.faults err.old) (E.faults err.new)))) }
-    ensures memory { IfSome result (λ s. s.0 ≡ 8 → Told memory_line (E.told err.old) (E.told err.new) (E.faults err.old) (E.faults err.new)) }
+        × Told (write_at_line d)
+        (E.told err.old) (E.told err.new) (E.faults err.old) (E.faults err.new)))) }
+    ensures memory { IfSome result (λ s. s.0 ≡ 8 → Told memory_line
+        (E.told err.old) (E.told err.new) (E.faults err.old) (E.faults err.new)) }
     ensures unreported { IfSome result (λ s. s.0 ≡ 8 → (out.new ≡ out.old)
         ⊎ SomeJob (F.contents files.old) (spelled words.now) (λ command job.
         Got (K.told out.old) (K.told out.new) (all_lines (engine_of command) job))) }
-    ensures lineless { (engine : Option Engine) (job : Job) → all_lines engine job ≡ [] }
 
     ensures unread { IfSome result (λ s. s.0 ≡ 2 → files.new ≡ files.old) }
     ensures contents { (name : List ℕ) → F.contents files.new name ≡ F.contents files.old name }
 {
     let status = match run_words(alloc, words, files, out, steps) {
         Ok(status) => status,
-        Err(Refusal::Usage(word)) => tell_usage(alloc, err, word),
-        Err(Refusal::Read(file)) => tell_read(alloc, err, &file),
-        Err(Refusal::Config(fault)) => tell_config(alloc, err, fault),
-        Err(Refusal::Plan(breach)) => tell_plan(alloc, err, breach),
+        Err(Refusal::Usage(word)) => tell_made(err, usage_line(alloc, word), Status(2)),
+        Err(Refusal::Read(file)) => tell_made(err, read_line(alloc, &file), Status(5)),
+        Err(Refusal::Config(fault)) => tell_made(err, config_line(alloc, fault), Status(3)),
+        Err(Refusal::Plan(breach)) => tell_made(err, plan_line(alloc, breach), Status(3)),
         Err(Refusal::WriteAt(upto)) => {
             tell_write_at(err, upto);
             Status(6)

@@ -1,9 +1,10 @@
-ghost use Rattle.std.specs.Prelude.{◌≡◌, ◌≢◌, ℕ, ◌+◌, ◌≤◌, ◌<◌, ◌^◌, List, [], length, drop, codes, Some, None, slice_get, IsTrue, ◌↔◌, IfOk, IfErr, IfSome, OnOk};
+ghost use Rattle.std.specs.Prelude.{◌≡◌, ◌≢◌, ℕ, ◌+◌, ◌≤◌, ◌<◌, ◌^◌, List, [], length, drop, codes, Some, None, false, slice_get, IsTrue, ◌↔◌, IfOk, IfErr, IfSome, OnOk};
 ghost use Rattle.std.specs.Fmt.{decimal};
-ghost use Rattle.top_run.specs.Words.{spelled, IsFile, AreRing, AreFile, AreFileAndOptions, AreSettings, Accepts};
+ghost use Rattle.top_run.specs.declared.command.Detail.{Detail};
+ghost use Rattle.top_run.specs.Words.{spelled, IsFile, AreRing, AreFile, AreFileAndOptions, AreSettings, Accepts, detail_word, has_detail};
 ghost use Rattle.top_run.specs.Words.{IsRing, IsOneFile, IsFileAndOptions, HasOptions, RefusedAt, IsRefusedFrom, IsNumberAt, IsUsage};
 
-use crate::command::{Command, FileName, Options, Ring};
+use crate::command::{Command, Detail, FileName, Options, Ring};
 use crate::refusal::Refusal;
 use sim_base::{OutOfMemory, Time};
 use std::alloc::Global;
@@ -28,7 +29,8 @@ fn kept(
     least: u64,
     most: u64,
 ) -> Result<Option<u64>, OutOfMemory>
-    ensures some { IfOk result (λ o. IfSome o (λ m. (word.now ≡ decimal m) × (least ≤ m) × (m ≤ most))) }
+    ensures some { IfOk result (λ o.
+        IfSome o (λ m. (word.now ≡ decimal m) × (least ≤ m) × (m ≤ most))) }
     ensures none { result ≡ Ok None → least ≤ n → n ≤ most → word.now ≢ decimal n }
 {
     let text = format!(in alloc; "{n}")?;
@@ -41,7 +43,8 @@ fn kept(
 
 /// The number that a word is: in decimal digits without a sign or a leading zero, and in the range.
 fn number(alloc: Global, word: &str, least: u64, most: u64) -> Result<Option<u64>, OutOfMemory>
-    ensures some { IfOk result (λ o. IfSome o (λ n. (word.now ≡ decimal n) × (least ≤ n) × (n ≤ most))) }
+    ensures some { IfOk result (λ o.
+        IfSome o (λ n. (word.now ≡ decimal n) × (least ≤ n) × (n ≤ most))) }
     ensures none { result ≡ Ok None → (n : ℕ) → least ≤ n → n ≤ most → word.now ≢ decimal n }
 {
     match parsed(word) {
@@ -57,8 +60,10 @@ fn number_at(
     least: u64,
     most: u64,
 ) -> Result<Option<u64>, OutOfMemory>
-    ensures some { IfOk result (λ o. IfSome o (λ n. IsNumberAt (spelled words.now) place least most n)) }
-    ensures none { result ≡ Ok None → (n : ℕ) → IsNumberAt (spelled words.now) place least most n → ⊥ }
+    ensures some { IfOk result (λ o.
+        IfSome o (λ n. IsNumberAt (spelled words.now) place least most n)) }
+    ensures none { result ≡ Ok None → (n : ℕ)
+        → IsNumberAt (spelled words.now) place least most n → ⊥ }
 {
     match words.get(place) {
         Some(word) => number(alloc, word.as_str(), least, most),
@@ -110,10 +115,11 @@ fn need_number(
 fn need_file(alloc: Global, words: &[String], place: usize) -> Result<FileName, Refusal>
     requires near { place ≤ length words.now }
 
-    ensures some { IfOk result (λ file. (slice_get (spelled words.now) place ≡ Some file) × IsFile file) }
+    ensures some { IfOk result (λ file.
+        (slice_get (spelled words.now) place ≡ Some file) × IsFile file) }
     ensures here { OnOk result (place < length words.now) }
-    ensures none { IfErr result (IsUsage (λ k. (k ≡ place + 1)
-        × ((file : List ℕ) → slice_get (spelled words.now) place ≡ Some file → IsFile file → ⊥))) }
+    ensures none { IfErr result (IsUsage (λ k. (k ≡ place + 1) × ((file : List ℕ)
+        → slice_get (spelled words.now) place ≡ Some file → IsFile file → ⊥))) }
 {
     match words.get(place) {
         Some(word) if is_file(word.as_str()) => Ok(FileName::of(alloc, word.as_str())?),
@@ -164,9 +170,38 @@ fn read_check(alloc: Global, words: &[String]) -> Result<FileName, Refusal>
 
 /// Whether the word of this place begins an option that is free.
 fn is_free_until(words: &[String], place: usize, options: Options) -> bool
-    ensures { IsTrue result ↔ ((slice_get (spelled words.now) place ≡ Some (codes "--until")) × (options.until ≡ None)) }
+    ensures { IsTrue result ↔ ((slice_get (spelled words.now) place ≡ Some (codes "--until"))
+        × (options.until ≡ None)) }
 {
     is_word(words, place, b"--until") && options.until.is_none()
+}
+
+/// The detail that the word of this place asks for.
+fn detail_at(words: &[String], place: usize) -> Option<Detail>
+    ensures some { IfSome result
+        (λ d. slice_get (spelled words.now) place ≡ Some (detail_word d)) }
+    ensures none { result ≡ None → (d : Detail)
+        → slice_get (spelled words.now) place ≡ Some (detail_word d) → ⊥ }
+{
+    if is_word(words, place, b"--dump") {
+        return Some(Detail::Dump);
+    }
+    None
+}
+
+/// The same where it is free.
+fn free_detail(words: &[String], place: usize, options: Options) -> Option<Detail>
+    ensures some { IfSome result (λ d. (has_detail options d ≡ false)
+        × (slice_get (spelled words.now) place ≡ Some (detail_word d))) }
+    ensures none { result ≡ None → (d : Detail)
+        → slice_get (spelled words.now) place ≡ Some (detail_word d)
+        → has_detail options d ≡ false → ⊥ }
+{
+    let detail = detail_at(words, place)?;
+    if options.has(detail) {
+        return None;
+    }
+    Some(detail)
 }
 
 /// The options that the words from a place on ask for beside those that were set.
@@ -178,22 +213,20 @@ fn read_options(
 ) -> Result<Options, Refusal>
     requires near { place ≤ length words.now }
 
-    ensures accepted { IfOk result (λ after. AreSettings options after (drop place (spelled words.now))) }
-    ensures refused { IfErr result (IsUsage (IsRefusedFrom (HasOptions options) (spelled words.now) place)) }
+    ensures accepted { IfOk result
+        (λ after. AreSettings options after (drop place (spelled words.now))) }
+    ensures refused { IfErr result
+        (IsUsage (IsRefusedFrom (HasOptions options) (spelled words.now) place)) }
 {
     if words.len() <= place {
         return Ok(options);
     }
     if is_free_until(words, place, options) {
         let until = need_number(alloc, words, place + 1, 0, LATEST)?;
-        return read_options(
-            alloc,
-            words,
-            place + 2,
-            Options {
-                until: Some(Time(until)),
-            },
-        );
+        return read_options(alloc, words, place + 2, options.with_time(Time(until)));
+    }
+    if let Some(detail) = free_detail(words, place, options) {
+        return read_options(alloc, words, place + 1, options.with(detail));
     }
     Err(Refusal::Usage(place + 1))
 }
@@ -209,11 +242,13 @@ struct FileRun {
 fn read_run(alloc: Global, words: &[String]) -> Result<FileRun, Refusal>
     requires some { 0 < length words.now }
 
-    ensures accepted { IfOk result (λ run. AreFileAndOptions run.file run.options (drop 1 (spelled words.now))) }
-    ensures refused { IfErr result (IsUsage (IsRefusedFrom IsFileAndOptions (spelled words.now) 1)) }
+    ensures accepted { IfOk result
+        (λ run. AreFileAndOptions run.file run.options (drop 1 (spelled words.now))) }
+    ensures refused { IfErr result
+        (IsUsage (IsRefusedFrom IsFileAndOptions (spelled words.now) 1)) }
 {
     let file = need_file(alloc, words, 1)?;
-    let options = read_options(alloc, words, 2, Options { until: None })?;
+    let options = read_options(alloc, words, 2, Options::NONE)?;
     Ok(FileRun { file, options })
 }
 

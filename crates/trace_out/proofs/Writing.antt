@@ -1,10 +1,23 @@
 -- What a sink got of a text, piece by piece.
-use Rattle.std.proofs.Common.{◌≡◌, ℕ, ◌+◌, ◌<◌, ◌≤◌, List, [], ◌∷◌, ◌++◌, length, take, drop, get_or, Option, Some, None, append_assoc, ap, sym, ◌∙◌, subst}
-use Rattle.std.specs.Prelude.{option_map, flat_map, Result, Ok, Err, OnErr}
+use Rattle.std.proofs.Common.{◌≡◌, ℕ, ◌+◌, ◌<◌, ◌≤◌, List, [], ◌∷◌, ◌++◌, length, take, drop, get_or, Option, Some, None, append_assoc, add-one, ap, refl, sym, ◌∙◌, subst, arith}
+use Rattle.std.specs.Prelude.{option_map, flat_map, count_by, Bool, true, false, Result, Ok, Err, OnErr}
 use Rattle.std.proofs.Math.Seq.{take-append_seam}
 use Rattle.std.proofs.lemmas.List.{take_more, take-append-drop, append-nil}
 use Rattle.std.proofs.lemmas.Grind.{flat_map-append}
-use Rattle.sim_io.specs.Sink.{Got, GotPrefix}
+use Rattle.std.proofs.lemmas.List.Sums.{count_by_more_yes, count_by_more_no}
+use Rattle.sim_io.specs.Sink.{Got, GotPrefix, one_more, more_if, more_by}
+
+-- so many items of a list have a line; a count rose once for each
+pub more_counted : {A : Type 0} (has : A → Bool) (items : List A) (i : ℕ) (item other : A) (first before after : ℕ) → i < length items → item ≡ get_or items i other → before ≡ more_by first (count_by has (take i items)) → after ≡ more_if (has item) before → after ≡ more_by first (count_by has (take (i + 1) items))
+more_counted has items i item other first before after h is b a = by_test (has item) refl
+  where
+    by_test : (t : Bool) → has item ≡ t → after ≡ more_by first (count_by has (take (i + 1) items))
+    by_test true e =
+        a ∙ ap (λ t. more_if t before) e ∙ ap one_more b
+        ∙ ap (more_by first) (sym (count_by_more_yes has items i other h (ap has (sym is) ∙ e) ∙ add-one (count_by has (take i items))))
+    by_test false e =
+        a ∙ ap (λ t. more_if t before) e ∙ b
+        ∙ ap (more_by first) (sym (count_by_more_no has items i other h (ap has (sym is) ∙ e)))
 
 -- the sink got the texts of the first `count` items, and its count of faults did not fall
 pub record GotFirst {A : Type 0} (f : A → List ℕ) (items : List A) (count : ℕ) (old new : Option (List ℕ)) (before after : ℕ) : Type 0 where
@@ -32,6 +45,12 @@ regroup a b c d = simp append_assoc
 -- and the rest comes after it
 texts_split : {A : Type 0} (f : A → List ℕ) (items : List A) (i : ℕ) → flat_map f items ≡ flat_map f (take i items) ++ flat_map f (drop i items)
 texts_split f items i = ap (flat_map f) (sym (take-append-drop i items)) ∙ flat_map-append f (take i items) (drop i items)
+
+pub got_next : {A : Type 0} (f : A → List ℕ) (items : List A) (i : ℕ) (item other : A) (old mid new : Option (List ℕ)) (before between after : ℕ) → GotFirst f items i old mid before between → i < length items → item ≡ get_or items i other → Got mid new (f item) → between ≤ after → GotFirst f items (i + 1) old new before after
+got_next f items i item other old mid new before between after h in_range is got falls = record {
+  got = subst (λ (bytes : List ℕ). Got old new bytes) (texts_more f items i item other in_range is) (Got-more old mid new _ _ h.got got);
+  falls = let first = h.falls in omega (arith, first, falls);
+}
 
 pub got_part : {A : Type 0} (f : A → List ℕ) (items : List A) (i : ℕ) (item other : A) (old mid new : Option (List ℕ)) (before between : ℕ) → GotFirst f items i old mid before between → i < length items → item ≡ get_or items i other → GotPrefix mid new (f item) → GotPrefix old new (flat_map f items)
 got_part f items i item other old mid new before between h in_range is (k, got) =

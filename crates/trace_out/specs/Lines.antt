@@ -1,5 +1,5 @@
 -- The text of a trace.
-use Rattle.std.specs.Prelude.{ℕ, Bool, true, false, List, [], ◌∷◌, ◌++◌, ◌||◌, take, Option, option_map, slice_get, unwrap_or, codes, decimal, flat_map, if◌then◌else◌}
+use Rattle.std.specs.Prelude.{ℕ, Bool, true, false, List, [], ◌∷◌, ◌++◌, ◌||◌, take, Option, option_map, slice_get, unwrap_or, codes, decimal, flat_map, count_by, if◌then◌else◌}
 use Rattle.std.specs.Int.{to_be_bytes, w32}
 use Rattle.hex.specs.Hex.{encode_lower}
 use Rattle.port_msg.specs.declared.message.Msg.{Msg}
@@ -108,9 +108,16 @@ is_out (Move msg) = false
 is_out (Halt cause) = false
 
 -- a byte that a core wrote always has its line; the other records have theirs where all are asked for
+abbrev pub has_line : Bool → Record → Bool
+has_line all r = all || is_out r.what
+
 abbrev pub text_of : NamesView → Bool → Record → List ℕ
-text_of names all r = if all || is_out r.what then line_of names r else []
+text_of names all r = if has_line all r then line_of names r else []
 
 -- the lines of the records, in order
 abbrev pub lines_of : NamesView → Bool → List Record → List ℕ
 lines_of names all recs = flat_map (text_of names all) recs
+
+-- how many lines there are
+abbrev pub line_count : Bool → List Record → ℕ
+line_count all recs = count_by (has_line all) recs

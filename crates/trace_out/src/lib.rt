@@ -9,4 +9,5 @@ mod write;
 
 pub use line::{Line, add};
 pub use names::{Names, PortName};
+pub use record_line::add_cause;
 pub use write::write_records;

@@ -52,6 +52,20 @@ impl Names {
         })
     }
 
+    /// The names of all parts, in order.
+    pub fn part_names(&self) -> &[Name]
+        ensures { result.now ≡ self.now.parts }
+    {
+        &self.parts
+    }
+
+    /// The names of all links, in order.
+    pub fn link_names(&self) -> &[Name]
+        ensures { result.now ≡ self.now.links }
+    {
+        &self.links
+    }
+
     /// The name of a part, or None where there is no such number.
     pub fn part(&self, no: PartNo) -> Option<Name>
         ensures { result ≡ slice_get self.now.parts no.0 }

@@ -9,7 +9,7 @@ use crate::names::Names;
 use port_msg::{Cause, Record, What};
 
 /// Appends why a core halted.
-fn add_cause(line: &mut Line, cause: Cause)
+pub fn add_cause(line: &mut Line, cause: Cause)
     requires room { array_vec_len line.old + 25 ≤ LINE_ROOM }
 
     ensures added { line.new.items ≡ line.old.items ++ cause_text cause }

@@ -1,7 +1,7 @@
 ghost use Rattle.std.specs.Prelude.{◌≡◌, ◌<◌, ◌≤◌, is_some, OnOk, OnErr, All};
-ghost use Rattle.sim_io.specs.Sink.{Rose, Got, GotPrefix};
+ghost use Rattle.sim_io.specs.Sink.{Rose, Got, GotPrefix, more_if, more_by};
 ghost use Rattle.trace_out.specs.Names.{actors_of};
-ghost use Rattle.trace_out.specs.Lines.{is_out, text_of, lines_of};
+ghost use Rattle.trace_out.specs.Lines.{is_out, has_line, text_of, lines_of, line_count};
 
 use crate::names::Names;
 use crate::record_line::line_of;
@@ -27,9 +27,12 @@ fn write_record<K: Sink>(
 ) -> Result<(), SinkFault>
     requires known { rec.now.actor.0 < actors_of names.now }
 
-    ensures ok { OnOk result (Got (K.told sink.old) (K.told sink.new) (text_of names.now all rec.now)) }
-    ensures prefix { OnErr result (GotPrefix (K.told sink.old) (K.told sink.new) (text_of names.now all rec.now)) }
+    ensures ok { OnOk result
+        (Got (K.told sink.old) (K.told sink.new) (text_of names.now all rec.now)) }
+    ensures prefix { OnErr result
+        (GotPrefix (K.told sink.old) (K.told sink.new) (text_of names.now all rec.now)) }
     ensures fault { OnErr result (Rose (K.faults sink.old) (K.faults sink.new)) }
+    ensures counted { K.writes sink.new ≡ more_if (has_line all rec.now) (K.writes sink.old) }
     ensures never_falls { K.faults sink.old ≤ K.faults sink.new }
     ensures telling { is_some (K.told sink.new) ≡ is_some (K.told sink.old) }
 {
@@ -39,7 +42,7 @@ fn write_record<K: Sink>(
     sink.write(line_of(rec, names).as_slice())
 }
 
-/// Writes the lines of these records in order; without `all` only those of bytes that cores wrote.
+/// Writes the lines of these records in order, each by one write; without `all` only those of bytes that cores wrote.
 /// After a fault a prefix of them was written. It takes no memory.
 pub fn write_records<K: Sink>(
     recs: &RecList,
@@ -49,10 +52,14 @@ pub fn write_records<K: Sink>(
 ) -> Result<(), SinkFault>
     requires known { All (λ r. r.actor.0 < actors_of names.now) recs.now.items }
 
-    ensures ok { OnOk result (Got (K.told sink.old) (K.told sink.new) (lines_of names.now all recs.now.items)) }
-    ensures prefix { OnErr result (GotPrefix (K.told sink.old) (K.told sink.new) (lines_of names.now all recs.now.items)) }
+    ensures ok { OnOk result
+        (Got (K.told sink.old) (K.told sink.new) (lines_of names.now all recs.now.items)) }
+    ensures prefix { OnErr result
+        (GotPrefix (K.told sink.old) (K.told sink.new) (lines_of names.now all recs.now.items)) }
     ensures fault { OnErr result (Rose (K.faults sink.old) (K.faults sink.new)) }
 
+    ensures one_each { OnOk result
+        (K.writes sink.new ≡ more_by (K.writes sink.old) (line_count all recs.now.items)) }
     ensures never_falls { K.faults sink.old ≤ K.faults sink.new }
     ensures telling { is_some (K.told sink.new) ≡ is_some (K.told sink.old) }
 {

@@ -37,7 +37,7 @@ pub returns-clause-stays : goal.returns-clause-stays
 returns-clause-stays g c = record {
   parts = refl;
   links = refl;
-  hands = ap (slice_set c.args.gear.now.hands.items c.args.no) (c.act_part-flag.ensures.hand ∙ c.index_mut-hand.ensures.value) ∙ set-get_or c.args.gear.now.hands.items c.args.no c.index_mut-hand.result.now;
+  hands = ap (slice_set c.args.gear.now.hands.items (length c.own-ports.result.now)) (c.act_part-flag.ensures.hand ∙ c.index_mut-hand.ensures.value) ∙ set-get_or c.args.gear.now.hands.items (length c.own-ports.result.now) c.index_mut-hand.result.now;
   part_due = refl;
   link_due = refl;
 }

@@ -30,14 +30,17 @@ part_turn-flag-requires-clause-can g c =
 pub part_turn-flag-requires-clause-hands : goal.part_turn-flag-requires-clause-hands
 part_turn-flag-requires-clause-hands g c =
     let inv = c.loop-no.invariant in
-    omega (arith, c.in-Some.ensures.least.within, ap length inv.stays.part_due, c.requires.due, ap length inv.stays.hands, c.requires.hands.all)
+    let i = c.in-Some.no in
+    let here = c.requires.hands.within i (omega (arith, c.in-Some.ensures.least.within, ap length inv.stays.part_due, c.requires.due)) in
+    omega (arith, here, ap length inv.stays.hands, ap (λ (s : SideGear). length (own_of s.wiring i)) inv.stays.parts)
 
 pub part_turn-flag-requires-clause-hand : goal.part_turn-flag-requires-clause-hand
 part_turn-flag-requires-clause-hand g c =
     let inv = c.loop-no.invariant in
     let i = c.in-Some.no in
-    ap (λ (hs : List PortsView). length (get_or hs i (record { ports = []; seen = [] })).ports) inv.stays.hands
-    ∙ c.requires.hands.each i (omega (arith, c.in-Some.ensures.least.within, ap length inv.stays.part_due, c.requires.due))
+    ap (λ (hs : List PortsView). length (get_or hs (length (own_of c.loop-no.gear.parts.wiring i)) (record { ports = []; seen = [] })).ports) inv.stays.hands
+    ∙ ap (λ (s : SideGear). length (get_or c.args.gear.now.hands.items (length (own_of s.wiring i)) (record { ports = []; seen = [] })).ports) inv.stays.parts
+    ∙ c.requires.hands.ports i (omega (arith, c.in-Some.ensures.least.within, ap length inv.stays.part_due, c.requires.due))
     ∙ sym (ap (λ (s : SideGear). length (own_of s.wiring i)) inv.stays.parts)
 
 pub loop-no-preserved : goal.loop-no-preserved

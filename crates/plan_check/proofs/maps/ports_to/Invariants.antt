@@ -1,5 +1,5 @@
 use Rattle.std.proofs.Common.{◌≡◌, map, take}
-use Rattle.plan_check.specs.Plan.{port_to}
+use Rattle.plan_check.specs.Maps.{port_to}
 use Rattle.plan_check.proofs.maps.ports_to.Given as goal
 
 abbrev pub invariant-loop-part : goal.invariant-loop-part

@@ -3,7 +3,7 @@ use Rattle.sim_config.specs.Tables.{RangeTable}
 use Rattle.addr_map.specs.Range.{IsRange}
 use Rattle.addr_map.specs.declared.range.Range.{Range}
 use Rattle.plan_rules.specs.Text.{range_targets}
-use Rattle.plan_check.specs.Plan.{port_to}
+use Rattle.plan_check.specs.Maps.{port_to}
 use Rattle.plan_check.proofs.Ranges.{range_is_range}
 use Rattle.plan_check.proofs.maps.range_of.Goals as goal
 

@@ -3,7 +3,7 @@ use Rattle.std.specs.Prelude.{slice_get, All}
 use Rattle.std.proofs.lemmas.List.Elements.{All-push}
 use Rattle.addr_map.specs.Range.{IsRange}
 use Rattle.plan_rules.specs.Text.{ranges_at}
-use Rattle.plan_check.specs.Plan.{range_of}
+use Rattle.plan_check.specs.Maps.{range_of}
 use Rattle.plan_check.proofs.LoopSteps.{copied_step}
 use Rattle.plan_check.proofs.Places.{some_at}
 use Rattle.plan_check.proofs.maps.ranges_of.Goals as goal

@@ -2,7 +2,7 @@ use Rattle.std.proofs.Common.{◌≡◌, map, take}
 use Rattle.std.specs.Prelude.{All}
 use Rattle.addr_map.specs.Range.{IsRange}
 use Rattle.plan_rules.specs.Text.{ranges_at}
-use Rattle.plan_check.specs.Plan.{range_of}
+use Rattle.plan_check.specs.Maps.{range_of}
 use Rattle.plan_check.proofs.maps.ranges_of.Given as goal
 
 abbrev pub invariant-loop-place : goal.invariant-loop-place

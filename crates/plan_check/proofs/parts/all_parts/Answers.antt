@@ -13,6 +13,6 @@ loop-no-preserved c =
     let there : slice_get c.items-tables.result.now c.loop-no.no ≡ Some c.index-tables-no.result = some_at c.items-tables.result.now c.loop-no.no c.index-tables-no.result (omega arith) ∙ ap (λ t. Some t) (sym c.index-tables-no.is) in
     let pushed : c.push.new.self.items ≡ c.loop-no.parts.items ++ c.in_ok-part_of.field-0 ∷ [] = c.in_ok-push.ensures.items in
     record {
-      so_far = parts_step c.args.plan.now c.loop-no.no c.index-tables-no.result c.in_ok-part_of.field-0 c.loop-no.parts.items c.push.new.self.items (ap (λ xs. slice_get xs c.loop-no.no) (sym tables) ∙ there) c.in_ok-part_of.ensures.part c.loop-no.invariant.so_far pushed;
+      so_far = parts_step c.args.plan.now c.args.programs.now.images.now c.loop-no.no c.index-tables-no.result c.in_ok-part_of.field-0 c.loop-no.parts.items c.push.new.self.items (ap (λ xs. slice_get xs c.loop-no.no) (sym tables) ∙ there) c.in_ok-part_of.ensures.part c.loop-no.invariant.so_far pushed;
       own = mapped_step part_own (λ (p : PartTable). port_count p.kind) c.loop-no.parts.items c.push.new.self.items c.in_ok-part_of.field-0 c.items-tables.result.now c.loop-no.no c.index-tables-no.result c.loop-no.invariant.own pushed c.in_ok-part_of.ensures.own there;
     }

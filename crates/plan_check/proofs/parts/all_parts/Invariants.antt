@@ -7,6 +7,6 @@ use Rattle.plan_check.proofs.parts.all_parts.Given as goal
 
 abbrev pub invariant-loop-no : goal.invariant-loop-no
 invariant-loop-no l = record {
-  so_far : l.parts.items ≡ parts_to l.plan l.no;
+  so_far : l.parts.items ≡ parts_to l.plan l.programs.images.now l.no;
   own : map part_own l.parts.items ≡ map (λ (p : PartTable). port_count p.kind) (take l.no l.tables);
 }

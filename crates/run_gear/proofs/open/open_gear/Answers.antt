@@ -4,12 +4,12 @@ use Rattle.port_msg.specs.RecView.{RecView}
 use Rattle.tick_law.specs.Wires.{own_of}
 use Rattle.tick_law.specs.PlanView.{PlanView, IsPlan, part_wires}
 use Rattle.tick_law.specs.Laws.{Laws}
-use Rattle.port_rows.specs.Opening.{AreLong}
+use Rattle.port_rows.specs.Opening.{AreHands}
 use Rattle.run_gear.proofs.Setting.{fitted, room_enough, part_short, link_short, part_count, length-map}
 use Rattle.run_gear.proofs.open.open_gear.Goals as goal
 
-pub hollow_rows-requires-clause-short : goal.hollow_rows-requires-clause-short
-hollow_rows-requires-clause-short g c j =
+pub open_hands-requires-clause-short : goal.open_hands-requires-clause-short
+open_hands-requires-clause-short g c j =
     let plan = c.args.plan.now in
     let is : IsPlan g.P.Actor.machine g.N.Actor.machine plan = subst (IsPlan g.P.Actor.machine g.N.Actor.machine) c.plan.view_is c.plan.invariant in
     let short = part_short g.P.Actor.machine g.N.Actor.machine plan is j in
@@ -41,8 +41,8 @@ returns-clause-gear g c =
         together = (let n : length c.in_ok-links.links.periods.items ≡ length plan.links = ap length lp.periods ∙ length-map mn.period plan.links in let z : length plan.parts + length plan.links ≡ c.in_ok-links.links.first + length c.in_ok-links.links.periods.items = omega (arith, n, lp.first) in z);
       };
       fitted = fitted mp mn g.P.Actor.valid g.N.Actor.valid plan c.in_ok-recs.recs.room c.in_ok-parts.parts.periods.items c.in_ok-links.links.periods.items is room laws_p laws_n known_p known_n pp.periods lp.periods;
-      hands_are = subst (λ w. AreLong c.in_ok-hands.hands.items w (length plan.parts)) pp.wires
-          (subst (λ n. AreLong c.in_ok-hands.hands.items c.in_ok-parts.parts.wiring n) (ap (λ w. length w.own) pp.wires ∙ part_count mp mn plan is) c.in_ok-hands.ensures);
+      hands_are = subst (λ w. AreHands c.in_ok-hands.hands.items w (length plan.parts)) pp.wires
+          (subst (λ n. AreHands c.in_ok-hands.hands.items c.in_ok-parts.parts.wiring n) (ap (λ w. length w.own) pp.wires ∙ part_count mp mn plan is) c.in_ok-hands.ensures);
       enough = room_enough mp mn plan c.in_ok-recs.recs.room is room;
       part_short = part_short mp mn plan is;
       link_short = link_short mp mn plan is;

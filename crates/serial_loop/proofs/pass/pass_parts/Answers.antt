@@ -47,7 +47,7 @@ loop-no-preserved g c =
       stays = record {
         parts = inv.stays.parts;
         links = inv.stays.links;
-        hands = ap (slice_set c.loop-no.gear.hands.items n) (act.ensures.hand ∙ c.index_mut-hand.ensures.value) ∙ set-get_or c.loop-no.gear.hands.items n c.index_mut-hand.result.now ∙ inv.stays.hands;
+        hands = ap (slice_set c.loop-no.gear.hands.items (length c.own-ports.result.now)) (act.ensures.hand ∙ c.index_mut-hand.ensures.value) ∙ set-get_or c.loop-no.gear.hands.items (length c.own-ports.result.now) c.index_mut-hand.result.now ∙ inv.stays.hands;
       };
     }
 

@@ -3,7 +3,7 @@ use Rattle.port_msg.specs.RecView.{RecView}
 use Rattle.tick_law.specs.PlanView.{part_wires, system_from}
 use Rattle.port_row.specs.Row.{face_of}
 use Rattle.port_rows.specs.Rows.{RowsView}
-use Rattle.port_rows.specs.Opening.{AreLong}
+use Rattle.port_rows.specs.Opening.{AreHands}
 use Rattle.actor_turn.specs.Act.{parts_acting, links_acting}
 use Rattle.actor_turn.specs.declared.side.SideGear.{SideGear}
 use Rattle.run_gear.specs.declared.gear.Gear.{Gear}
@@ -55,8 +55,8 @@ pass_parts-parts-requires-clause-can g c = (first g (goal.at.pass_parts-parts-re
 pub pass_parts-parts-requires-clause-hands : goal.pass_parts-parts-requires-clause-hands
 pass_parts-parts-requires-clause-hands g c =
     let is = c.requires.gear in
-    subst (λ w. AreLong c.args.gear.now.hands.items w (length c.args.world.now.parts.items)) (sym is.part_wires_are)
-    (subst (λ n. AreLong c.args.gear.now.hands.items (part_wires g.C.Charter.plan) n) (sym c.requires.at.boundary.parts_are.long ∙ (first g (goal.at.pass_parts-parts-requires-clause-hands g c).After-clear).can.all_next) is.hands_are)
+    subst (λ w. AreHands c.args.gear.now.hands.items w (length c.args.world.now.parts.items)) (sym is.part_wires_are)
+    (subst (λ n. AreHands c.args.gear.now.hands.items (part_wires g.C.Charter.plan) n) (sym c.requires.at.boundary.parts_are.long ∙ (first g (goal.at.pass_parts-parts-requires-clause-hands g c).After-clear).can.all_next) is.hands_are)
 
 pub wake_changed-requires-clause-wakes : goal.wake_changed-requires-clause-wakes
 wake_changed-requires-clause-wakes g c = (first_woken g c).wakes

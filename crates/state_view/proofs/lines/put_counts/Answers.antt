@@ -1,7 +1,7 @@
 use Rattle.std.proofs.Common.{◌++◌, ◌∙◌, ap}
 use Rattle.std.specs.Prelude.{codes}
 use Rattle.std.specs.Fmt.{decimal}
-use Rattle.state_view.specs.Report.{line_feed}
+use Rattle.state_view.specs.MemoryRows.{line_feed}
 use Rattle.state_view.proofs.LineLaws.{on_ok, five_pieces}
 use Rattle.state_view.proofs.lines.put_counts.Goals as goal
 

@@ -4,7 +4,6 @@ use Rattle.top_run.specs.Job.{Config, Plan}
 use Rattle.top_run.specs.Refusals.{Told}
 use Rattle.top_run.specs.Top.{IsCause}
 use Rattle.top_run.proofs.Spelling.{completed, not_run, not_broken, not_failed, refused_none, not_job}
-use Rattle.top_run.proofs.Jobs.{lineless}
 use Rattle.top_run.proofs.top.plain.Goals as goal
 
 pub returns-in-Ok-clause-complete : goal.returns-in-Ok-clause-complete
@@ -25,43 +24,19 @@ returns-in-Err-Usage-clause-broken g c = λ command rule accepts told calm. refu
 pub returns-in-Err-Read-clause-read : goal.returns-in-Err-Read-clause-read
 returns-in-Err-Read-clause-read g c = λ five.
     let why = (subst (λ r. IsCause (g.F.Files.contents c.args.files.now) (g.F.Files.faults c.args.files.now) (g.F.Files.faults c.run_words.new.files) (spelled c.args.words.now) (g.K.Sink.faults c.args.out.now) (g.K.Sink.faults c.run_words.new.out) (g.K.Sink.told c.args.out.now) (g.K.Sink.told c.run_words.new.out) r) c.in-Err-Read.field-0-is c.in-Err-Read.ensures.fault) in
-    (why.0, why.1, (why.2.0, subst (λ line. Told line (g.E.Sink.told c.args.err.now) (g.E.Sink.told c.tell_read-status.new.err) (g.E.Sink.faults c.args.err.now) (g.E.Sink.faults c.tell_read-status.new.err)) why.2.1 (c.tell_read-status.ensures.line five)))
+    (why.0, why.1, (why.2.0, subst (λ line. Told line (g.E.Sink.told c.args.err.now) (g.E.Sink.told c.tell_made-status-in-Err-Read.new.err) (g.E.Sink.faults c.args.err.now) (g.E.Sink.faults c.tell_made-status-in-Err-Read.new.err)) why.2.1 (c.tell_made-status-in-Err-Read.ensures.line five _ c.read_line.ensures.text)))
 
 pub returns-in-Err-Config-clause-rule : goal.returns-in-Err-Config-clause-rule
-returns-in-Err-Config-clause-rule g c = λ three. (Config c.in-Err-Config.fault, (subst (λ r. IsCause (g.F.Files.contents c.args.files.now) (g.F.Files.faults c.args.files.now) (g.F.Files.faults c.run_words.new.files) (spelled c.args.words.now) (g.K.Sink.faults c.args.out.now) (g.K.Sink.faults c.run_words.new.out) (g.K.Sink.told c.args.out.now) (g.K.Sink.told c.run_words.new.out) r) c.in-Err-Config.field-0-is c.in-Err-Config.ensures.fault), c.tell_config-status.ensures.line three)
+returns-in-Err-Config-clause-rule g c = λ three. (Config c.in-Err-Config.fault, (subst (λ r. IsCause (g.F.Files.contents c.args.files.now) (g.F.Files.faults c.args.files.now) (g.F.Files.faults c.run_words.new.files) (spelled c.args.words.now) (g.K.Sink.faults c.args.out.now) (g.K.Sink.faults c.run_words.new.out) (g.K.Sink.told c.args.out.now) (g.K.Sink.told c.run_words.new.out) r) c.in-Err-Config.field-0-is c.in-Err-Config.ensures.fault), c.tell_made-status-in-Err-Config.ensures.line three _ c.config_line.ensures.text)
 
 pub returns-in-Err-Plan-clause-complete : goal.returns-in-Err-Plan-clause-complete
 returns-in-Err-Plan-clause-complete g c = λ command job accepts told calm read. not_broken _ (spelled c.args.words.now) command job (Plan c.in-Err-Plan.breach) accepts told (subst (λ r. IsCause (g.F.Files.contents c.args.files.now) (g.F.Files.faults c.args.files.now) (g.F.Files.faults c.run_words.new.files) (spelled c.args.words.now) (g.K.Sink.faults c.args.out.now) (g.K.Sink.faults c.run_words.new.out) (g.K.Sink.told c.args.out.now) (g.K.Sink.told c.run_words.new.out) r) c.in-Err-Plan.field-0-is c.in-Err-Plan.ensures.fault)
 
 pub returns-in-Err-Plan-clause-rule : goal.returns-in-Err-Plan-clause-rule
-returns-in-Err-Plan-clause-rule g c = λ three. (Plan c.in-Err-Plan.breach, (subst (λ r. IsCause (g.F.Files.contents c.args.files.now) (g.F.Files.faults c.args.files.now) (g.F.Files.faults c.run_words.new.files) (spelled c.args.words.now) (g.K.Sink.faults c.args.out.now) (g.K.Sink.faults c.run_words.new.out) (g.K.Sink.told c.args.out.now) (g.K.Sink.told c.run_words.new.out) r) c.in-Err-Plan.field-0-is c.in-Err-Plan.ensures.fault), c.tell_plan-status.ensures.line three)
+returns-in-Err-Plan-clause-rule g c = λ three. (Plan c.in-Err-Plan.breach, (subst (λ r. IsCause (g.F.Files.contents c.args.files.now) (g.F.Files.faults c.args.files.now) (g.F.Files.faults c.run_words.new.files) (spelled c.args.words.now) (g.K.Sink.faults c.args.out.now) (g.K.Sink.faults c.run_words.new.out) (g.K.Sink.told c.args.out.now) (g.K.Sink.told c.run_words.new.out) r) c.in-Err-Plan.field-0-is c.in-Err-Plan.ensures.fault), c.tell_made-status-in-Err-Plan.ensures.line three _ c.plan_line.ensures.text)
 
 pub returns-in-Err-WriteAt-clause-broken : goal.returns-in-Err-WriteAt-clause-broken
 returns-in-Err-WriteAt-clause-broken g c = λ command rule accepts told calm. not_job _ (spelled c.args.words.now) _ command rule accepts told (subst (λ r. IsCause (g.F.Files.contents c.args.files.now) (g.F.Files.faults c.args.files.now) (g.F.Files.faults c.run_words.new.files) (spelled c.args.words.now) (g.K.Sink.faults c.args.out.now) (g.K.Sink.faults c.run_words.new.out) (g.K.Sink.told c.args.out.now) (g.K.Sink.told c.run_words.new.out) r) c.in-Err-WriteAt.field-0-is c.in-Err-WriteAt.ensures.fault).1
 
 pub returns-in-Err-Write-clause-broken : goal.returns-in-Err-Write-clause-broken
 returns-in-Err-Write-clause-broken g c = λ command rule accepts told calm. not_job _ (spelled c.args.words.now) _ command rule accepts told (subst (λ r. IsCause (g.F.Files.contents c.args.files.now) (g.F.Files.faults c.args.files.now) (g.F.Files.faults c.run_words.new.files) (spelled c.args.words.now) (g.K.Sink.faults c.args.out.now) (g.K.Sink.faults c.run_words.new.out) (g.K.Sink.told c.args.out.now) (g.K.Sink.told c.run_words.new.out) r) c.in-Err-Write.field-0-is c.in-Err-Write.ensures.fault).1
-
-pub returns-in-Ok-clause-lineless : goal.returns-in-Ok-clause-lineless
-returns-in-Ok-clause-lineless g c = lineless
-
-pub returns-in-Err-Usage-clause-lineless : goal.returns-in-Err-Usage-clause-lineless
-returns-in-Err-Usage-clause-lineless g c = lineless
-
-pub returns-in-Err-Read-clause-lineless : goal.returns-in-Err-Read-clause-lineless
-returns-in-Err-Read-clause-lineless g c = lineless
-
-pub returns-in-Err-Config-clause-lineless : goal.returns-in-Err-Config-clause-lineless
-returns-in-Err-Config-clause-lineless g c = lineless
-
-pub returns-in-Err-Plan-clause-lineless : goal.returns-in-Err-Plan-clause-lineless
-returns-in-Err-Plan-clause-lineless g c = lineless
-
-pub returns-in-Err-WriteAt-clause-lineless : goal.returns-in-Err-WriteAt-clause-lineless
-returns-in-Err-WriteAt-clause-lineless g c = lineless
-
-pub returns-in-Err-Write-clause-lineless : goal.returns-in-Err-Write-clause-lineless
-returns-in-Err-Write-clause-lineless g c = lineless
-
-pub returns-in-Err-OutOfMemory-clause-lineless : goal.returns-in-Err-OutOfMemory-clause-lineless
-returns-in-Err-OutOfMemory-clause-lineless g c = lineless

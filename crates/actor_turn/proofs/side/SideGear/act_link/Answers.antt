@@ -4,10 +4,10 @@ use Rattle.actor_turn.specs.Act.{links_acting}
 use Rattle.actor_turn.proofs.ActLaws.{read_at, acted_wait, acted_edge}
 use Rattle.actor_turn.proofs.side.SideGear.act_link.Goals as goal
 
-pub returns-then-t-period-ne0-clause-acted : goal.returns-then-t-period-ne0-clause-acted
-returns-then-t-period-ne0-clause-acted g c =
+pub returns-in_default-clause-acted : goal.returns-in_default-clause-acted
+returns-in_default-clause-acted g c =
     acted_wait g.N.Actor.machine c.args.self.now c.args.no c.args.t c.period-period.result c.index_mut-link.result.now (links_acting c.args.world.now c.args.recs.now c.args.steps.now) c.begin.new.self
-    c.requires.can c.begin.ensures c.index_mut-link.ensures.value c.period-period.ensures.period c.if-t-period-ne0.true
+    c.requires.can c.begin.ensures c.index_mut-link.ensures.value c.period-period.ensures.period c.in_default.ensures.none
 
 pub tick_link-requires-clause-own : goal.tick_link-requires-clause-own
 tick_link-requires-clause-own g c =
@@ -17,5 +17,5 @@ tick_link-requires-clause-own g c =
 pub returns-clause-acted : goal.returns-clause-acted
 returns-clause-acted g c =
     let e = c.tick_link.ensures in
-    acted_edge g.N.Actor.machine c.args.self.now (own_of c.args.world.now.rows.wires c.args.no) c.args.no c.args.t c.period-period.result c.index_mut-link.result.now c.tick_link.new.link (links_acting c.args.world.now c.args.recs.now c.args.steps.now) c.begin.new.self c.tick_link.new.self c.tick_link.new.recs c.tick_link.new.steps c.tick_link.result
-    c.requires.can c.begin.ensures (sym (ap (λ w. own_of w c.args.no) c.requires.wires)) c.index_mut-link.ensures.value c.period-period.ensures.period (omega (arith, c.if-t-period-ne0.false)) e.long e.state e.ports e.records e.flag e.steps
+    acted_edge g.N.Actor.machine c.args.self.now (own_of c.args.world.now.rows.wires c.args.no) c.args.no c.args.t c.period-period.result c.in-Some.cycle c.index_mut-link.result.now c.tick_link.new.link (links_acting c.args.world.now c.args.recs.now c.args.steps.now) c.begin.new.self c.tick_link.new.self c.tick_link.new.recs c.tick_link.new.steps c.tick_link.result
+    c.requires.can c.begin.ensures (sym (ap (λ w. own_of w c.args.no) c.requires.wires)) c.index_mut-link.ensures.value c.period-period.ensures.period c.in-Some.ensures.edge c.in-Some.ensures.number e.long e.state e.ports e.records e.flag e.steps

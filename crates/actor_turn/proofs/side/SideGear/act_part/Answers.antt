@@ -4,10 +4,10 @@ use Rattle.actor_turn.specs.Act.{parts_acting}
 use Rattle.actor_turn.proofs.ActLaws.{read_at, acted_wait, acted_edge}
 use Rattle.actor_turn.proofs.side.SideGear.act_part.Goals as goal
 
-pub returns-then-t-period-ne0-clause-acted : goal.returns-then-t-period-ne0-clause-acted
-returns-then-t-period-ne0-clause-acted g c =
+pub returns-in_default-clause-acted : goal.returns-in_default-clause-acted
+returns-in_default-clause-acted g c =
     acted_wait g.P.Actor.machine c.args.self.now c.args.no c.args.t c.period-period.result c.index_mut-part.result.now (parts_acting c.args.world.now c.args.recs.now c.args.steps.now) c.begin.new.self
-    c.requires.can c.begin.ensures c.index_mut-part.ensures.value c.period-period.ensures.period c.if-t-period-ne0.true
+    c.requires.can c.begin.ensures c.index_mut-part.ensures.value c.period-period.ensures.period c.in_default.ensures.none
 
 pub tick_part-requires-clause-within : goal.tick_part-requires-clause-within
 tick_part-requires-clause-within g c = λ q h. c.requires.can.wired.within c.args.no q (subst (λ l. Has l q) c.own-own.ensures h)
@@ -23,5 +23,5 @@ tick_part-requires-clause-own g c =
 pub returns-clause-acted : goal.returns-clause-acted
 returns-clause-acted g c =
     let e = c.tick_part.ensures in
-    acted_edge g.P.Actor.machine c.args.self.now c.own-own.result.now c.args.no c.args.t c.period-period.result c.index_mut-part.result.now c.tick_part.new.part (parts_acting c.args.world.now c.args.recs.now c.args.steps.now) c.begin.new.self c.tick_part.new.self c.tick_part.new.recs c.tick_part.new.steps c.tick_part.result
-    c.requires.can c.begin.ensures c.own-own.ensures c.index_mut-part.ensures.value c.period-period.ensures.period (omega (arith, c.if-t-period-ne0.false)) e.long e.state e.ports e.records e.flag e.steps
+    acted_edge g.P.Actor.machine c.args.self.now c.own-own.result.now c.args.no c.args.t c.period-period.result c.in-Some.cycle c.index_mut-part.result.now c.tick_part.new.part (parts_acting c.args.world.now c.args.recs.now c.args.steps.now) c.begin.new.self c.tick_part.new.self c.tick_part.new.recs c.tick_part.new.steps c.tick_part.result
+    c.requires.can c.begin.ensures c.own-own.ensures c.index_mut-part.ensures.value c.period-period.ensures.period c.in-Some.ensures.edge c.in-Some.ensures.number e.long e.state e.ports e.records e.flag e.steps

@@ -1,0 +1,3 @@
+pub mod PassIsOver
+pub mod PassBegins
+pub mod SideBack

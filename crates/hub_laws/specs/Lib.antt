@@ -1,0 +1,2 @@
+pub mod HubState
+pub mod Events

@@ -1,0 +1,4 @@
+pub mod NumberLaws
+pub mod PlanWorlds
+pub mod QueryLaws
+pub mod TableLaws
