@@ -87,6 +87,9 @@ fn sizes(
 ) -> Result<Result<(usize, usize, usize), PlanFault>, Fail> {
     let text = machine(alloc, relays, links, maps)?;
     let text = read_config(alloc, text.as_bytes())?;
+    if text.programs.items().len() != 0 {
+        return Err(Fail::new("the machine names a program"));
+    }
     match build(alloc, &text, &[]) {
         Ok(plan) => Ok(Ok((plan.parts.len(), plan.links.len(), plan.ports.len()))),
         Err(fault) => Ok(Err(fault)),
