@@ -12,7 +12,7 @@ use part_kind::{LinkKind, Part};
 use phase_engine::{Engine, RunFault, run_plan};
 use port_rows::World;
 use ring_plan::ring_plan;
-use run_gear::Ending;
+use run_gear::{Ending, Kept};
 use sim_base::{ActorNo, Body, LinkNo, Mode, Name, OutOfMemory, PortList, PortNo, Steps, Time};
 use sim_io::MemSink;
 use std::alloc::Global;
@@ -43,7 +43,11 @@ fn run_counted<L: Ledger>(
     let plan = counted_plan(alloc, plan, &ticks)?;
     let mut steps = Steps::<L>::open(blank);
     let mut sink = MemSink::of(Vec::new(alloc), Vec::new(alloc));
-    let ending = run_plan(alloc, plan, &mut sink, false, &mut steps)?;
+    let kept = Kept {
+        all: false,
+        stats: None,
+    };
+    let ending = run_plan(alloc, plan, kept, &mut sink, &mut steps)?;
     Ok(Ran {
         ending,
         ticks: ticks.load(Ordering::SeqCst),

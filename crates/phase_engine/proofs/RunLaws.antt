@@ -6,6 +6,7 @@ use Rattle.sim_base.specs.declared.time.TheConstants.{LATEST_TIME}
 use Rattle.sim_base.specs.declared.time.Time.{Time}
 use Rattle.sim_io.specs.Sink.{Got, GotPrefix}
 use Rattle.event_queue.specs.NextTimes.{time_of}
+use Rattle.tick_law.specs.PlanView.{PlanView}
 use Rattle.tick_law.specs.WorldPlaces.{WorldPlaces}
 use Rattle.tick_law.specs.Verdict.{awake_below}
 use Rattle.tick_law.specs.SerialLoop.{System, pick, records_at_time, records_below, stirs_at, end_below}
@@ -17,10 +18,16 @@ use Rattle.model_laws.specs.Boundary.{IsBoundary}
 use Rattle.model_laws.specs.SideTimes.{half_of, number_of}
 use Rattle.model_laws.proofs.SideTimesLaws.{half_at, length-half}
 use Rattle.trace_out.specs.Names.{NamesView}
-use Rattle.trace_out.specs.Lines.{lines_of}
-use Rattle.run_gear.proofs.LineLaws.{lines_grow, prefix_grow}
+use Rattle.trace_out.specs.Lines.{lines_of, line_count}
+use Rattle.run_gear.proofs.CountLaws.{counted_then}
+use Rattle.run_gear.proofs.LineLaws.{lines_grow}
 use Rattle.phase_engine.specs.RunGear.{IsDueBy}
-use Rattle.phase_engine.specs.Between.{records_over, records_between}
+use Rattle.port_msg.specs.declared.records.Record.{Record}
+use Rattle.task_stats.specs.Tasks.{TasksView}
+use Rattle.run_gear.specs.Counted.{counted_with}
+use Rattle.run_gear.specs.PlanNames.{names_of}
+use Rattle.run_gear.specs.Written.{GotSomeLines}
+use Rattle.phase_engine.specs.Between.{records_over, records_between, GotBetween, GotSomeBetween}
 
 tail_same : {A : Type 0} (x y : A) (xs ys : List A) → x ∷ xs ≡ y ∷ ys → xs ≡ ys
 tail_same x y xs ys e = cc
@@ -91,8 +98,34 @@ module _ {P N : Type 0} where
   pub lines_then : (r : System P N) (names : NamesView) (all : Bool) (d t : ℕ) (old mid new : Option (List ℕ)) → d ≤ t → Got old mid (lines_of names all (records_between r d t)) → Got mid new (lines_of names all (records_at_time r t)) → Got old new (lines_of names all (records_between r d (t + 1)))
   lines_then r names all d t old mid new l p q = lines_grow names all (records_between r d t) (records_at_time r t) (records_between r d (t + 1)) old mid new (between_more r d t l) p q
 
-  pub prefix_then : (r : System P N) (names : NamesView) (all : Bool) (d t : ℕ) (old mid new : Option (List ℕ)) → d ≤ t → Got old mid (lines_of names all (records_between r d t)) → GotPrefix mid new (lines_of names all (records_at_time r t)) → GotPrefix old new (lines_of names all (records_between r d (t + 1)))
-  prefix_then r names all d t old mid new l p q = prefix_grow names all (records_between r d t) (records_at_time r t) (records_between r d (t + 1)) old mid new (between_more r d t l) p q
+  -- the requests of one time more
+  pub counted_more : (r : System P N) (d t : ℕ) (first mid last : Option (List TasksView)) (items : List Record) → d ≤ t → items ≡ records_at_time r t → mid ≡ counted_with first (records_between r d t) → last ≡ counted_with mid items → last ≡ counted_with first (records_between r d (t + 1))
+  counted_more r d t first mid last items l is p q =
+      counted_then first mid last (records_between r d t) (records_at_time r t) (records_between r d (t + 1)) (between_more r d t l) p (q ∙ ap (counted_with mid) is)
+
+  -- a line of time t was not written
+  pub some_between : (plan : PlanView P N) (r : System P N) (all : Bool) (d t : ℕ) (old held new : Option (List ℕ)) → d ≤ t → 0 < line_count all (records_at_time r t) → GotBetween plan r all d t old held → GotPrefix held new (lines_of (names_of plan) all (records_at_time r t)) → GotSomeBetween plan r all d (t + 1) old new
+  some_between plan r all d t old held new l one earlier prefix =
+      let last : t ≡ t + 1 - 1 = omega arith in
+      record {
+        behind = omega (arith, l);
+        one = subst (λ n. 0 < line_count all (records_at_time r n)) last one;
+        held = held;
+        earlier = subst (λ n. GotBetween plan r all d n old held) last earlier;
+        prefix = subst (λ n. GotPrefix held new (lines_of (names_of plan) all (records_at_time r n))) last prefix;
+      }
+
+  -- from the beginning on
+  pub some_from_beginning : (plan : PlanView P N) (r : System P N) (all : Bool) (d e : ℕ) (old new : Option (List ℕ)) → d ≡ r.start.at → GotSomeBetween plan r all d e old new → GotSomeLines plan r all e old new
+  some_from_beginning plan r all d e old new z some =
+      let behind = some.behind in
+      record {
+        behind = omega (arith, behind);
+        one = some.one;
+        held = some.held;
+        earlier = subst (λ l. Got old some.held (lines_of (names_of plan) all l)) (from_beginning r d (e - 1) z (omega (arith, behind))) some.earlier;
+        prefix = some.prefix;
+      }
 
   pub end_then : (r : System P N) (t end new : ℕ) (flag : Bool) → new ≡ pick flag t end → flag ≡ stirs_at r t → end ≡ end_below r t → new ≡ end_below r (t + 1)
   end_then r t end new flag a b c = end_more r t (t + 1) end new flag a b c refl

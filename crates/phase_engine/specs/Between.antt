@@ -1,11 +1,11 @@
 -- What happens from one boundary of a run on.
-use Rattle.std.specs.Prelude.{ℕ, ◌+◌, ◌-◌, List, [], ◌++◌, Option, Bool}
+use Rattle.std.specs.Prelude.{ℕ, ◌+◌, ◌-◌, ◌<◌, List, [], ◌++◌, Option, Bool}
 use Rattle.std.proofs.Common.{zero, suc}
 use Rattle.port_msg.specs.declared.records.Record.{Record}
 use Rattle.sim_io.specs.Sink.{Got, GotPrefix}
 use Rattle.tick_law.specs.PlanView.{PlanView}
 use Rattle.tick_law.specs.SerialLoop.{System, records_at_time}
-use Rattle.trace_out.specs.Lines.{lines_of}
+use Rattle.trace_out.specs.Lines.{lines_of, line_count}
 use Rattle.run_gear.specs.PlanNames.{names_of}
 
 -- the records of so many times from d on
@@ -23,7 +23,11 @@ module _ {P N : Type 0} where
   GotBetween plan r all d e old new =
       Got old new (lines_of (names_of plan) all (records_between r d e))
 
-  -- it got a part of them, from the first byte on
-  abbrev pub GotSomeBetween : PlanView P N → System P N → Bool → ℕ → ℕ → Option (List ℕ) → Option (List ℕ) → Type 0
-  GotSomeBetween plan r all d e old new =
-      GotPrefix old new (lines_of (names_of plan) all (records_between r d e))
+  -- a line of the last time below e was not written: it got the lines of all earlier times, and then a prefix of those of that
+  -- time, which has one
+  pub record GotSomeBetween (plan : PlanView P N) (r : System P N) (all : Bool) (d e : ℕ) (old new : Option (List ℕ)) : Type 0 where
+    pub behind : d < e
+    pub one : 0 < line_count all (records_at_time r (e - 1))
+    pub held : Option (List ℕ)
+    pub earlier : GotBetween plan r all d (e - 1) old held
+    pub prefix : GotPrefix held new (lines_of (names_of plan) all (records_at_time r (e - 1)))

@@ -4,7 +4,7 @@ ghost use Rattle.ring_rows.specs.Lone.{lone_after_one};
 
 use crate::lone::lone_plan;
 use part_kind::{LinkKind, Part};
-use run_gear::{Ending, RunFault};
+use run_gear::{Ending, Kept, RunFault};
 use serial_loop::run_serial;
 use sim_base::{Name, Steps, Time};
 use sim_io::Sink;
@@ -25,5 +25,9 @@ pub fn lone_first_time<K: Sink, L: Ledger>(
     ensures steps { OnOk result (steps.new ≡ steps.old + 2) }
 {
     let plan = lone_plan(alloc, name, Time(0))?;
-    run_serial(alloc, plan, sink, false, steps)
+    let kept = Kept {
+        all: false,
+        stats: None,
+    };
+    run_serial(alloc, plan, kept, sink, steps)
 }

@@ -5,7 +5,7 @@ use crate::{lone_first_time, lone_plan};
 use direct_link::Direct;
 use part_kind::{LinkKind, Part};
 use port_rows::World;
-use run_gear::{Ending, RunFault};
+use run_gear::{Ending, Kept, RunFault};
 use serial_loop::run_serial;
 use sim_base::{LinkNo, Name, PartNo, Steps, Time};
 use sim_io::MemSink;
@@ -33,7 +33,11 @@ fn run<L: Ledger>(
         return lone_first_time(alloc, name, sink, &mut steps);
     }
     let plan = lone_plan(alloc, name, Time(until))?;
-    run_serial(alloc, plan, sink, false, &mut steps)
+    let kept = Kept {
+        all: false,
+        stats: None,
+    };
+    run_serial(alloc, plan, kept, sink, &mut steps)
 }
 
 fn relay(world: &World<Part, LinkKind>) -> Option<&Relay> {

@@ -4,4 +4,5 @@ pub mod NameLaws
 pub mod Pigeons
 pub mod Setting
 pub mod Boundaries
+pub mod CountLaws
 pub mod LineLaws

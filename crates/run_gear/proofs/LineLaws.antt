@@ -1,8 +1,7 @@
 -- Lines of records, one time after another.
-use Rattle.std.proofs.Common.{◌≡◌, ℕ, ◌+◌, ◌<◌, ◌≤◌, List, [], ◌++◌, length, take, drop, zero, suc, sym, ◌∙◌, ap, subst, arith, refl}
+use Rattle.std.proofs.Common.{◌≡◌, ℕ, ◌+◌, ◌-◌, ◌<◌, ◌≤◌, List, [], ◌++◌, length, zero, suc, sym, ◌∙◌, ap, subst, arith, refl}
 use Rattle.std.specs.Prelude.{Option, Some, None, Bool, All, option_map}
-use Rattle.std.proofs.Math.Seq.{take-append_seam}
-use Rattle.std.proofs.lemmas.List.{take-append-drop, append_assoc, append-nil}
+use Rattle.std.proofs.lemmas.List.{append-nil}
 use Rattle.std.proofs.lemmas.List.Elements.{All-nil, All-append, All-map}
 use Rattle.std.proofs.lemmas.Grind.{flat_map-append}
 use Rattle.sim_base.specs.declared.time.TheConstants.{LATEST_TICK}
@@ -12,12 +11,15 @@ use Rattle.sim_io.specs.Sink.{Rose, Got, GotPrefix}
 use Rattle.tick_law.specs.Machine.{Machine}
 use Rattle.tick_law.specs.Wires.{Wires}
 use Rattle.tick_law.specs.Pass.{Side}
+use Rattle.tick_law.specs.PlanView.{PlanView}
 use Rattle.tick_law.specs.SerialLoop.{System, begun, world_at, mid, parts_of, links_of, records_at_time}
 use Rattle.tick_law.specs.Outcomes.{outcome, whats_of, records_to}
 use Rattle.model_laws.specs.Fitted.{IsSetUp}
 use Rattle.model_laws.proofs.BothCourses.{world_good}
 use Rattle.trace_out.specs.Names.{NamesView}
-use Rattle.trace_out.specs.Lines.{text_of, lines_of}
+use Rattle.trace_out.specs.Lines.{text_of, lines_of, line_count}
+use Rattle.run_gear.specs.PlanNames.{names_of}
+use Rattle.run_gear.specs.Written.{GotLines, GotSomeLines}
 use Rattle.trace_out.proofs.Writing.{Got-more}
 
 -- no text more
@@ -28,27 +30,11 @@ nothing_more (Some bytes) = ap (λ l. Some l) (sym (append-nil bytes))
 pub rose_later : (before between after : ℕ) → before ≤ between → Rose between after → Rose before after
 rose_later before between after a b = grind arith
 
--- the lines of a prefix of a text's second part
-got_prefix : (old mid new : Option (List ℕ)) (a b : List ℕ) → Got old mid a → GotPrefix mid new b → GotPrefix old new (a ++ b)
-got_prefix old mid new a b p (k, q) =
-    let text = a ++ take k b in
-    let whole : a ++ b ≡ text ++ drop k b = ap (λ l. a ++ l) (sym (take-append-drop k b)) ∙ regroup a (take k b) (drop k b) in
-    (length text, subst (λ (bytes : List ℕ). Got old new bytes) (sym (ap (take (length text)) whole ∙ take-append_seam text (drop k b))) (Got-more old mid new a (take k b) p q))
-  where
-    regroup : (a b c : List ℕ) → a ++ (b ++ c) ≡ (a ++ b) ++ c
-    regroup a b c = simp append_assoc
-
 -- the lines of some records and of those that follow
 pub lines_grow : (names : NamesView) (all : Bool) (a b both : List Record) (old mid new : Option (List ℕ)) → both ≡ a ++ b → Got old mid (lines_of names all a) → Got mid new (lines_of names all b) → Got old new (lines_of names all both)
 lines_grow names all a b both old mid new is p q =
     subst (λ (bytes : List ℕ). Got old new bytes) (sym (flat_map-append (text_of names all) a b) ∙ ap (lines_of names all) (sym is))
     (Got-more old mid new (lines_of names all a) (lines_of names all b) p q)
-
--- the same where not all of the following came
-pub prefix_grow : (names : NamesView) (all : Bool) (a b both : List Record) (old mid new : Option (List ℕ)) → both ≡ a ++ b → Got old mid (lines_of names all a) → GotPrefix mid new (lines_of names all b) → GotPrefix old new (lines_of names all both)
-prefix_grow names all a b both old mid new is p q =
-    subst (λ (bytes : List ℕ). GotPrefix old new bytes) (sym (flat_map-append (text_of names all) a b) ∙ ap (lines_of names all) (sym is))
-    (got_prefix old mid new (lines_of names all a) (lines_of names all b) p q)
 
 actors_in : {S : Type 0} (m : Machine S) (w : Wires) (stepped : ℕ → Bool) (t : ℕ) (h : Side S) (base n most : ℕ) → base + n ≤ most → All (λ (x : Record). x.actor.0 < most) (records_to m w stepped t h base n)
 actors_in m w stepped t h base zero most b = All-nil (λ (x : Record). x.actor.0 < most)
@@ -58,6 +44,18 @@ actors_in m w stepped t h base (suc n) most b =
     (All-map (λ (x : Record). x.actor.0 < most) (record_of t (base + n)) (whats_of (outcome m w stepped t h n)) (λ k d l. (let z : base + n < most = omega arith in z)))
 
 module _ {P N : Type 0} where
+  -- a line of time t was not written
+  pub some_lines : (plan : PlanView P N) (r : System P N) (all : Bool) (t : ℕ) (old held new : Option (List ℕ)) → 0 < line_count all (records_at_time r t) → GotLines plan r all t old held → GotPrefix held new (lines_of (names_of plan) all (records_at_time r t)) → GotSomeLines plan r all (t + 1) old new
+  some_lines plan r all t old held new one earlier prefix =
+      let last : t ≡ t + 1 - 1 = omega arith in
+      record {
+        behind = omega arith;
+        one = subst (λ n. 0 < line_count all (records_at_time r n)) last one;
+        held = held;
+        earlier = subst (λ n. GotLines plan r all n old held) last earlier;
+        prefix = subst (λ n. GotPrefix held new (lines_of (names_of plan) all (records_at_time r n))) last prefix;
+      }
+
   -- each record of a time is of an actor that is there
   pub known_actors : (r : System P N) (vp : P → Type 0) (vn : N → Type 0) (t most : ℕ) → IsSetUp r vp vn → t ≤ LATEST_TICK + 1 → most ≡ length r.start.world.parts + length r.start.world.links → All (λ (x : Record). x.actor.0 < most) (records_at_time r t)
   known_actors r vp vn t most up l e =

@@ -1,3 +1,4 @@
+pub mod Counted
 pub mod IsGear
 pub mod IsOpened
 pub mod PlanNames

@@ -4,6 +4,7 @@
 mod ending;
 mod fault;
 mod gear;
+mod kept;
 mod names;
 mod open;
 mod opened;
@@ -15,6 +16,7 @@ mod wires;
 pub use ending::{Ending, later};
 pub use fault::{RunFault, TraceFault};
 pub use gear::Gear;
+pub use kept::{Kept, count};
 pub use names::plan_names;
 pub use open::open_run;
 pub use opened::Opened;

@@ -2,7 +2,7 @@
 use Rattle.std.proofs.Common.{◌≡◌, ℕ, ◌+◌, List, length, replicate, sym, ◌∙◌, ap, add-one}
 use Rattle.std.specs.Prelude.{Option, Some, Bool, ◌||◌}
 use Rattle.port_msg.specs.PortView.{PortView}
-use Rattle.sim_io.specs.Sink.{Got, GotPrefix}
+use Rattle.sim_io.specs.Sink.{Got}
 use Rattle.tick_law.specs.Machine.{Machine}
 use Rattle.tick_law.specs.WorldPlaces.{WorldPlaces, somes}
 use Rattle.tick_law.specs.SerialLoop.{Start, System, WorldState, whole_world, records_at_time, records_below}
@@ -14,7 +14,7 @@ use Rattle.model_laws.specs.Boundary.{IsBoundary}
 use Rattle.trace_out.specs.Names.{NamesView}
 use Rattle.trace_out.specs.Lines.{lines_of}
 use Rattle.run_gear.proofs.Boundaries.{boundary_start as boundary_begun, verdict_is as verdict_of_places}
-use Rattle.run_gear.proofs.LineLaws.{lines_grow, prefix_grow}
+use Rattle.run_gear.proofs.LineLaws.{lines_grow}
 
 module _ {P N : Type 0} where
   pub state_same : (a b : WorldState P N) → a.parts ≡ b.parts → a.links ≡ b.links → a.ports ≡ b.ports → a ≡ b
@@ -42,6 +42,3 @@ module _ {P N : Type 0} where
   -- the lines of one time more
   pub lines_then : (r : System P N) (names : NamesView) (all : Bool) (t : ℕ) (old mid new : Option (List ℕ)) → Got old mid (lines_of names all (records_below r t)) → Got mid new (lines_of names all (records_at_time r t)) → Got old new (lines_of names all (records_below r (t + 1)))
   lines_then r names all t old mid new p q = lines_grow names all (records_below r t) (records_at_time r t) (records_below r (t + 1)) old mid new (ap (λ n. records_below r n) (add-one t)) p q
-
-  pub prefix_then : (r : System P N) (names : NamesView) (all : Bool) (t : ℕ) (old mid new : Option (List ℕ)) → Got old mid (lines_of names all (records_below r t)) → GotPrefix mid new (lines_of names all (records_at_time r t)) → GotPrefix old new (lines_of names all (records_below r (t + 1)))
-  prefix_then r names all t old mid new p q = prefix_grow names all (records_below r t) (records_at_time r t) (records_below r (t + 1)) old mid new (ap (λ n. records_below r n) (add-one t)) p q

@@ -1,15 +1,16 @@
 ghost use Rattle.std.specs.Prelude.{◌≡◌, ◌+◌, ◌≤◌, Err, IfOk, OnOk};
-ghost use Rattle.tick_law.specs.SerialLoop.{world_at, edges_below};
+ghost use Rattle.tick_law.specs.SerialLoop.{world_at, records_below, edges_below};
 ghost use Rattle.tick_law.specs.PlanView.{opening, system_from, system_of};
 ghost use Rattle.tick_law.specs.Verdict.{verdict_at, end_at};
 ghost use Rattle.port_rows.specs.World.{state_of};
+ghost use Rattle.run_gear.specs.Counted.{counted_with};
 ghost use Rattle.run_gear.specs.Written.{GotLines, IsCut};
 ghost use Rattle.run_gear.specs.declared.fault.TraceFault.{TraceFault};
 ghost use Rattle.run_gear.specs.declared.fault.RunFault.{RunFault};
 
 use crate::run::run_opened;
 use crate::table::{NextTable, NextTables};
-use run_gear::{Ending, RunFault, open_run};
+use run_gear::{Ending, Kept, RunFault, open_run};
 use sim_base::Steps;
 use sim_io::Sink;
 use std::alloc::Global;
@@ -20,8 +21,8 @@ use tick_law::{Actor, Charter, Plan};
 fn run_of<P: Actor + Drop, N: Actor + Drop, C: Charter<P, N>, K: Sink, L: Ledger>(
     alloc: Global,
     plan: Plan<P, N>,
+    kept: Kept,
     sink: &mut K,
-    all: bool,
     steps: &mut Steps<L>,
 ) -> Result<Ending<P, N>, RunFault>
     requires plan { plan ≡ C.plan }
@@ -37,10 +38,12 @@ fn run_of<P: Actor + Drop, N: Actor + Drop, C: Charter<P, N>, K: Sink, L: Ledger
     ensures steps { OnOk result (steps.new ≡ steps.old
         + edges_below (system_from P.machine N.machine C.plan C.start) (C.plan.until + 1)) }
     ensures lines { OnOk result (GotLines C.plan
-        (system_from P.machine N.machine C.plan C.start) all (C.plan.until + 1) (K.told sink.old)
-        (K.told sink.new)) }
+        (system_from P.machine N.machine C.plan C.start) kept.all (C.plan.until + 1)
+        (K.told sink.old) (K.told sink.new)) }
+    ensures stats { IfOk result (λ e. e.stats ≡ counted_with kept.stats
+        (records_below (system_from P.machine N.machine C.plan C.start) (C.plan.until + 1))) }
     ensures fault { (f : TraceFault) → result ≡ Err (RunFault.Trace f) → IsCut C.plan
-        (system_from P.machine N.machine C.plan C.start) all f.upto.0 (K.faults sink.old)
+        (system_from P.machine N.machine C.plan C.start) kept.all f.upto.0 (K.faults sink.old)
         (K.faults sink.new) (K.told sink.old) (K.told sink.new) }
     ensures fault_steps { (f : TraceFault) → result ≡ Err (RunFault.Trace f) → steps.new
         ≡ steps.old + edges_below (system_from P.machine N.machine C.plan C.start) f.upto.0 }
@@ -52,20 +55,20 @@ fn run_of<P: Actor + Drop, N: Actor + Drop, C: Charter<P, N>, K: Sink, L: Ledger
     let parts = NextTable::open(alloc, opened.world.parts.len())?;
     let links = NextTable::open(alloc, opened.world.links.len())?;
     let next = NextTables { parts, links };
-    match run_opened::<P, N, C, K, L>(opened, next, sink, all, steps) {
+    match run_opened::<P, N, C, K, L>(opened, next, kept, sink, steps) {
         Ok(ending) => Ok(ending),
         Err(fault) => Err(RunFault::Trace(fault)),
     }
 }
 
-/// Runs a plan to its end by the loop that ticks everything, and writes the lines of the bytes that cores wrote, one write a line.
-/// One step is charged for each edge of each actor up to the plan's greatest time. A failed write ends the run, and is told with
-/// the boundary behind its time.
+/// Runs a plan to its end by the loop that ticks everything, and writes the lines of all its records or of the bytes that cores
+/// wrote, one write a line, and counts requests where that is asked for. One step is charged for each edge of each actor up to the
+/// plan's greatest time. A failed write ends the run, and is told with the boundary behind its time.
 pub fn run_serial<P: Actor + Drop, N: Actor + Drop, K: Sink, L: Ledger>(
     alloc: Global,
     plan: Plan<P, N>,
+    kept: Kept,
     sink: &mut K,
-    all: bool,
     steps: &mut Steps<L>,
 ) -> Result<Ending<P, N>, RunFault>
     ensures world { IfOk result
@@ -76,10 +79,12 @@ pub fn run_serial<P: Actor + Drop, N: Actor + Drop, K: Sink, L: Ledger>(
         (λ e. e.end.0 ≡ end_at (system_of P.machine N.machine plan) plan.until) }
     ensures steps { OnOk result (steps.new ≡ steps.old
         + edges_below (system_of P.machine N.machine plan) (plan.until + 1)) }
-    ensures lines { OnOk result (GotLines plan (system_of P.machine N.machine plan) all
+    ensures lines { OnOk result (GotLines plan (system_of P.machine N.machine plan) kept.all
         (plan.until + 1) (K.told sink.old) (K.told sink.new)) }
+    ensures stats { IfOk result (λ e. e.stats ≡ counted_with kept.stats
+        (records_below (system_of P.machine N.machine plan) (plan.until + 1))) }
     ensures fault { (f : TraceFault) → result ≡ Err (RunFault.Trace f) → IsCut plan
-        (system_of P.machine N.machine plan) all f.upto.0 (K.faults sink.old) (K.faults sink.new)
+        (system_of P.machine N.machine plan) kept.all f.upto.0 (K.faults sink.old) (K.faults sink.new)
         (K.told sink.old) (K.told sink.new) }
     ensures fault_steps { (f : TraceFault) → result ≡ Err (RunFault.Trace f) → steps.new
         ≡ steps.old + edges_below (system_of P.machine N.machine plan) f.upto.0 }
@@ -87,5 +92,5 @@ pub fn run_serial<P: Actor + Drop, N: Actor + Drop, K: Sink, L: Ledger>(
         × (steps.new ≡ steps.old) }
     ensures never_falls { K.faults sink.old ≤ K.faults sink.new }
 {
-    run_of::<P, N, Brand, K, L>(alloc, plan, sink, all, steps)
+    run_of::<P, N, Brand, K, L>(alloc, plan, kept, sink, steps)
 }

@@ -1,16 +1,14 @@
 -- Where the words behind the first word of a command are refused.
-use Rattle.std.proofs.Common.{◌≡◌, ◌≢◌, ℕ, zero, suc, ◌+◌, ◌<◌, ◌≤◌, List, [], ◌∷◌, ◌++◌, length, take, drop, codes, flat_map, refl, sym, ap, ◌∙◌, subst, arith}
-use Rattle.std.specs.Prelude.{Option, Some, None, Bool, true, false, slice_get, get_or}
+use Rattle.std.proofs.Common.{◌≡◌, ◌≢◌, ℕ, suc, ◌+◌, ◌<◌, ◌≤◌, List, [], ◌∷◌, length, drop, codes, flat_map, refl, sym, ap, ◌∙◌, subst, arith}
+use Rattle.std.specs.Prelude.{Some, None, false, slice_get, get_or}
 use Rattle.std.specs.Fmt.{decimal}
 use Rattle.std.proofs.lemmas.Fmt.{decimal_injective}
-use Rattle.sim_base.specs.declared.time.Time.{Time}
 use Rattle.top_run.specs.declared.command.Ring.{Ring}
 use Rattle.top_run.specs.declared.command.Options.{Options}
 use Rattle.top_run.specs.declared.command.Detail.{Detail}
-use Rattle.top_run.specs.declared.command.Detail.TheVariants.{Dump}
-use Rattle.top_run.specs.declared.command.Command.{Command}
+use Rattle.top_run.specs.declared.command.Detail.TheVariants.{Trace, Stats, Dump}
 use Rattle.top_run.specs.declared.command.Command.TheVariants as commands
-use Rattle.top_run.specs.Words.{latest, InRange, IsFile, Setting, Until, Shows, setting_words, detail_word, has_detail, with_detail, IsAllowed, IsFree, with_setting, Lead, AreSettings, IsAccepted, no_options, AreRing, AreFile, AreFileAndOptions, command_word, IsBehind, IsRing, IsOneFile, IsFileAndOptions, HasOptions, IsRefusedFrom, IsNumberAt}
+use Rattle.top_run.specs.Words.{latest, IsFile, Until, Shows, setting_words, detail_word, has_detail, with_detail, with_setting, Lead, AreSettings, IsAccepted, no_options, IsBehind, IsRing, IsOneFile, IsFileAndOptions, HasOptions, IsRefusedFrom, IsNumberAt}
 use Rattle.top_run.proofs.WordRefusals.{from_here, from_behind, from_same, drop_at}
 
 abbrev pub ring_of : ℕ → ℕ → Ring
@@ -168,10 +166,20 @@ behind_run_file words file k at good r = from_behind IsFileAndOptions (HasOption
 
 -- options
 pub detail_same : (d e : Detail) → detail_word d ≡ detail_word e → d ≡ e
+detail_same Trace Trace is = refl
+detail_same Trace Dump is = let third : 116 ≡ 100 = ap (λ l. get_or l 2 0) is in absurd (omega (arith, third))
+detail_same Trace Stats is = let third : 116 ≡ 115 = ap (λ l. get_or l 2 0) is in absurd (omega (arith, third))
+detail_same Stats Trace is = let third : 115 ≡ 116 = ap (λ l. get_or l 2 0) is in absurd (omega (arith, third))
+detail_same Stats Stats is = refl
+detail_same Stats Dump is = let third : 115 ≡ 100 = ap (λ l. get_or l 2 0) is in absurd (omega (arith, third))
+detail_same Dump Stats is = let third : 100 ≡ 115 = ap (λ l. get_or l 2 0) is in absurd (omega (arith, third))
+detail_same Dump Trace is = let third : 100 ≡ 116 = ap (λ l. get_or l 2 0) is in absurd (omega (arith, third))
 detail_same Dump Dump is = refl
 
 -- a word that asks for a detail differs from `--until` at its third byte
 pub not_until : {A : Type 0} (d : Detail) → detail_word d ≡ codes "--until" → A
+not_until Trace e = let third : 116 ≡ 117 = ap (λ l. get_or l 2 0) e in absurd (omega (arith, third))
+not_until Stats e = let third : 115 ≡ 117 = ap (λ l. get_or l 2 0) e in absurd (omega (arith, third))
 not_until Dump e = let third : 100 ≡ 117 = ap (λ l. get_or l 2 0) e in absurd (omega (arith, third))
 
 pub no_option : (words : List (List ℕ)) (options : Options) (place k : ℕ) → k ≡ place + 1 → place < length words → (slice_get words place ≡ Some (codes "--until") → options.until ≡ None → ⊥) → ((d : Detail) → slice_get words place ≡ Some (detail_word d) → has_detail options d ≡ false → ⊥) → IsRefusedFrom (HasOptions options) words place k

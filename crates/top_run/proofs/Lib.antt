@@ -1,5 +1,6 @@
 pub mod WordRefusals
 pub mod CommandRefusals
+pub mod Loading
 pub mod Jobs
 pub mod Causes
 pub mod Shown

@@ -1,21 +1,21 @@
 -- No two commands are written alike, so that what a run of the words leaves is told by their command.
 use Rattle.std.proofs.Common.{◌≡◌, ℕ, ◌≤◌, List, [], ◌∷◌, ◌⊎◌, inr, refl, sym, ap, subst, ◌∙◌, arith}
-use Rattle.std.specs.Prelude.{Option, Some, None, slice_get, codes, flat_map, IfSome, Result, Ok, Err}
+use Rattle.std.specs.Prelude.{Option, codes, flat_map, IfSome, Result, Ok, Err}
 use Rattle.std.specs.Fmt.{decimal}
 use Rattle.std.proofs.lemmas.Fmt.{decimal_injective}
-use Rattle.sim_base.specs.declared.time.Time.{Time}
 use Rattle.sim_io.specs.Sink.{Got}
 use Rattle.top_run.specs.declared.command.Ring.{Ring}
 use Rattle.top_run.specs.declared.command.Options.{Options}
 use Rattle.top_run.specs.declared.command.Detail.{Detail}
-use Rattle.top_run.specs.declared.command.Detail.TheVariants.{Dump}
+use Rattle.top_run.specs.declared.command.Detail.TheVariants.{Trace, Stats, Dump}
 use Rattle.top_run.specs.declared.command.Command.{Command}
 use Rattle.top_run.specs.declared.command.Command.TheVariants as commands
 use Rattle.top_run.specs.declared.job.Job.{Job}
-use Rattle.top_run.specs.Words.{latest, InRange, Setting, Until, Shows, setting_words, detail_word, with_detail, with_setting, no_options, Lead, AreSettings, AreRing, command_word, AreBehind, Accepts, RefusedAt}
-use Rattle.top_run.specs.Job.{Rule, job_for, told_for, Means, IsTold, IsWithin}
-use Rattle.top_run.specs.Top.{engine_of, job_status, job_written, HasRun, SomeFile, SomeJob, ReadFailed}
+use Rattle.top_run.specs.Words.{latest, Setting, Until, Shows, setting_words, detail_word, with_detail, with_setting, no_options, Lead, AreSettings, AreRing, command_word, AreBehind, Accepts, RefusedAt}
+use Rattle.top_run.specs.Job.{Rule, AreOwn, AreTold, Means, IsTold, IsWithin}
+use Rattle.top_run.specs.Top.{engine_of, job_status, job_written, HasRun, SomeFile, SomeJob, ReadFailed, SomeReadFailed}
 use Rattle.top_run.proofs.CommandRefusals.{ring_of, differ, detail_same, not_until}
+use Rattle.top_run.proofs.Loading.{command_same, told_own}
 
 -- the same numbers
 ring_same : (rest : List (List ℕ)) (r q : Ring) → AreRing r rest → AreRing q rest → r ≡ q
@@ -82,9 +82,7 @@ accepted_same words c d (s, e, a) (t, f, b) =
 
 -- what the files tell of a command is what it means
 pub meaning_same : (contents : List ℕ → Option (List ℕ)) (c : Command) (x y : Result Job Rule) → IsTold contents c x → Means contents c y → y ≡ x
-meaning_same contents c x y (b, e, m) (b', h, m') =
-    let same : b' ≡ b = subst (λ o. IfSome o (λ own. b' ≡ own)) e h in
-    sym m' ∙ ap (λ bytes. job_for c bytes) same ∙ m
+meaning_same contents c x y told means = sym (command_same (AreTold contents) (AreOwn contents) (told_own contents) c x y told means)
 
 pub completed : (contents : List ℕ → Option (List ℕ)) (words : List (List ℕ)) (status : ℕ) (old new : Option (List ℕ)) (before after : ℕ) (c : Command) (job : Job) → Accepts words c → IsTold contents c (Ok job) → HasRun contents words status old new before after → (status ≡ 8) ⊎ ((status ≡ job_status (engine_of c) job) × Got old new (job_written (engine_of c) job))
 completed contents words status old new before after c job accepts told h =
@@ -112,13 +110,22 @@ not_broken contents words c job rule accepts told (d, taken, m) =
     let equal : Err rule ≡ Ok job = meaning_same contents c (Ok job) (Err rule) told (subst (λ e. Means contents e (Err rule)) same m) in
     absurd (cc)
 
--- a reading that failed is that of the command's own file
-pub not_failed : {A : Type 0} {X : Command → Type 0} (words : List (List ℕ)) (first last : List ℕ → ℕ) (c : Command) → Accepts words c → (ReadFailed first last c → ⊥) → SomeFile words (λ command. ReadFailed first last command × X command) → A
-not_failed words first last c accepts calm (d, taken, is) =
-    absurd (calm (subst (λ e. ReadFailed first last e) (accepted_same words d c taken accepts) is.0))
+-- a file that breaks a rule breaks that one
+pub rule_same : (contents : List ℕ → Option (List ℕ)) (words : List (List ℕ)) (c : Command) (rule other : Rule) → Accepts words c → IsTold contents c (Err rule) → SomeFile words (λ command. Means contents command (Err other)) → other ≡ rule
+rule_same contents words c rule other accepts told (d, taken, m) =
+    let same : d ≡ c = accepted_same words d c taken accepts in
+    let equal : Err other ≡ Err rule = meaning_same contents c (Err rule) (Err other) told (subst (λ e. Means contents e (Err other)) same m) in
+    cc
+
+-- a reading that failed is that of a file of the command
+pub not_failed : {A : Type 0} (words : List (List ℕ)) (contents : List ℕ → Option (List ℕ)) (first last : List ℕ → ℕ) (name : List ℕ) (c : Command) → Accepts words c → (SomeReadFailed contents first last c → ⊥) → SomeFile words (λ command. ReadFailed contents first last command name) → A
+not_failed words contents first last name c accepts calm (d, taken, failed) =
+    absurd (calm (name, subst (λ e. ReadFailed contents first last e name) (accepted_same words d c taken accepts) failed))
 
 -- a detail leaves the budget as it is
 detail_within : (d : Detail) (o : Options) → IfSome o.until (λ t. t.0 ≤ latest) → IfSome (with_detail o d).until (λ t. t.0 ≤ latest)
+detail_within Trace o is = is
+detail_within Stats o is = is
 detail_within Dump o is = is
 
 -- the budget that a command gives is one that files may have

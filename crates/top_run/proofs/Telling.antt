@@ -1,5 +1,5 @@
 -- What an object got of lines and reports.
-use Rattle.std.specs.Prelude.{ℕ, ◌≤◌, List, [], ◌++◌, Option, None, Result, Ok, Err, IfOk, OnOk, OnErr}
+use Rattle.std.specs.Prelude.{ℕ, List, ◌++◌, Option, None, Result, Ok, Err, IfOk, OnOk, OnErr}
 use Rattle.std.proofs.Common.{◌≡◌, inl, inr, subst}
 use Rattle.sim_io.specs.Sink.{Rose, Got, GotPrefix}
 use Rattle.trace_out.proofs.Writing.{Got-more}
@@ -37,6 +37,7 @@ pub fault_of_job : (behind memory others : Type 0) (at there : ℕ → Type 0) (
 fault_of_job behind memory others at there (refusals.Usage k) f g is = is
 fault_of_job behind memory others at there (refusals.Read file) f g is = is
 fault_of_job behind memory others at there (refusals.Config fault) f g is = is
+fault_of_job behind memory others at there (refusals.Program breach) f g is = is
 fault_of_job behind memory others at there (refusals.Plan breach) f g is = is
 fault_of_job behind memory others at there refusals.Write f g is = absurd is
 fault_of_job behind memory others at there (refusals.WriteAt d) f g is = f d.0 is

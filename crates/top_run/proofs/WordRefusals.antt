@@ -136,6 +136,7 @@ pub usage_map : (fact other : ℕ → Type 0) (r : Refusal) → ((k : ℕ) → f
 usage_map fact other (refusals.Usage k) f is = f k is
 usage_map fact other (refusals.Read file) f is = is
 usage_map fact other (refusals.Config fault) f is = is
+usage_map fact other (refusals.Program breach) f is = is
 usage_map fact other (refusals.Plan breach) f is = is
 usage_map fact other refusals.Write f is = is
 usage_map fact other (refusals.WriteAt d) f is = is

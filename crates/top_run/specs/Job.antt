@@ -1,16 +1,21 @@
--- What a command and its file mean: the machine that is run, or the first rule that the file breaks.
-use Rattle.std.specs.Prelude.{◌≡◌, ℕ, ◌≤◌, List, [], ◌∷◌, length, Option, Some, None, IfSome, Result, Ok, Err}
+-- What a command and its files mean: the machine that is run, or the first rule that a file breaks.
+use Rattle.std.specs.Prelude.{◌≡◌, ℕ, ◌≤◌, ◌⊎◌, List, [], ◌∷◌, length, slice_get, Option, Some, None, IfSome, option_map, Result, Ok, Err}
 use Rattle.sim_base.specs.declared.time.Time.{Time}
 use Rattle.sim_config.specs.Tables.{PlanTables, ProgramTable}
 use Rattle.sim_config.specs.Meaning.{config_of}
 use Rattle.sim_config.specs.declared.fault.ConfigFault.{ConfigFault}
-use Rattle.sim_config.specs.declared.fault.ConfigFault.TheVariants.{Broken}
-use Rattle.sim_config.specs.declared.fault.ConfigRule.TheVariants.{UnknownKey}
-use Rattle.sim_config.specs.declared.fault.TableNo.TheVariants.{Top}
+use Rattle.elf_load.specs.declared.image.Image.{Image}
+use Rattle.elf_load.specs.declared.rule.ElfRule.{ElfRule}
+use Rattle.elf_load.specs.Fields.{elf_header}
+use Rattle.elf_load.specs.Image.{segments_of}
+use Rattle.elf_load.specs.Rules as format
 use Rattle.plan_rules.specs.declared.breach.Breach.{Breach}
 use Rattle.plan_rules.specs.First.{first_broken}
+use Rattle.plan_check.specs.Programs.{first_unmapped}
 use Rattle.plan_check.specs.Plan.{plan_of}
 use Rattle.ring_plan.specs.Ring.{ring_plan}
+use Rattle.top_run.specs.declared.program_breach.ProgramBreach.{ProgramBreach}
+use Rattle.top_run.specs.declared.program_breach.ProgramRule.TheVariants.{Format, SegmentUnmapped}
 use Rattle.top_run.specs.declared.refusal.Refusal.{Refusal}
 use Rattle.top_run.specs.declared.refusal.Refusal.TheVariants as refusals
 use Rattle.top_run.specs.Words.{latest, InRange, no_options}
@@ -19,39 +24,59 @@ use Rattle.top_run.specs.declared.command.Options.{Options}
 use Rattle.top_run.specs.declared.command.Command.{Command}
 use Rattle.top_run.specs.declared.command.Command.TheVariants as commands
 
--- a rule of configurations or of plans that a file breaks, with its table
+-- a rule of configurations, of programs or of plans that a file breaks, with its place
 pub data Rule : Type 0 where
   Config : ConfigFault → Rule
+  Program : ProgramBreach → Rule
   Plan : Breach → Rule
+
+-- the bytes are those of the file of a name, where the files tell them
+abbrev pub AreOwn : (List ℕ → Option (List ℕ)) → List ℕ → List ℕ → Type 0
+AreOwn contents name bytes = IfSome (contents name) (λ own. bytes ≡ own)
+
+-- the files tell that these are the bytes of the file of a name
+abbrev pub AreTold : (List ℕ → Option (List ℕ)) → List ℕ → List ℕ → Type 0
+AreTold contents name bytes = contents name ≡ Some bytes
+
+-- a file gave some bytes, which are its own where they are told
+abbrev pub Gave : Option (List ℕ) → (List ℕ → Type 0) → Type 0
+Gave told fact = (bytes : List ℕ) × IfSome told (λ own. bytes ≡ own) × fact bytes
+
+-- the program that a file of these bytes holds, which breaks no rule of the format
+pub record IsImageOf (bytes : List ℕ) (image : Image) : Type 0 where
+  pub sound : format.first_broken bytes ≡ None
+  pub entry : image.entry ≡ (elf_header bytes).e_entry
+  pub file : image.file ≡ bytes
+  pub segments : image.segments ≡ segments_of bytes
+
+-- a rule of the format that a file of these bytes breaks first, and where
+abbrev pub IsFirstBroken : List ℕ → ProgramBreach → Type 0
+IsFirstBroken bytes breach = (rule : ElfRule) × (breach.rule ≡ Format rule) × (format.first_broken bytes ≡ Some (rule, breach.at))
 
 -- the file with this greatest time in place of its own
 abbrev pub with_budget : Option Time → PlanTables → PlanTables
 with_budget None text = text
 with_budget (Some t) text = record { until = t; maps = text.maps; parts = text.parts; links = text.links; programs = text.programs }
 
--- the machine of a text and the options of its run. No program is read yet: a text that names one is refused as if the top table
--- had a key that no row has
-abbrev pub job_without : List ProgramTable → Options → PlanTables → Result Job Rule
-job_without [] options text = Ok (record { plan = plan_of text []; programs = 0; options = options })
-job_without (p ∷ ps) options text = Err (Config (Broken UnknownKey Top None))
+-- the machine of a text with its programs and the options of its run, or the first segment that has a byte without a port: its
+-- program and the place of its address
+abbrev pub job_unmapped : Option (ℕ × ℕ) → List Image → Options → PlanTables → Result Job Rule
+job_unmapped None images options text = Ok (record { plan = plan_of text images; programs = length text.programs; options = options })
+job_unmapped (Some place) images options text = Err (Program (record { program = place.0; rule = SegmentUnmapped; at = place.1 }))
 
--- the job of a text, or the rule of plans that it breaks first
-abbrev pub job_unless : Option Breach → Options → PlanTables → Result Job Rule
-job_unless None options text = job_without text.programs options text
-job_unless (Some breach) options text = Err (Plan breach)
+-- the job of a text with its programs, or the rule of plans that it breaks first
+abbrev pub job_unless : Option Breach → List Image → Options → PlanTables → Result Job Rule
+job_unless None images options text = job_unmapped (option_map (λ place. (place.program, place.at)) (first_unmapped text images)) images options text
+job_unless (Some breach) images options text = Err (Plan breach)
 
--- the job of a text whose budget is the one that runs
-abbrev pub job_of_plan : Options → PlanTables → Result Job Rule
-job_of_plan options text = job_unless (first_broken text) options text
+-- the job of a text with its programs, whose budget is the one that runs
+abbrev pub job_of_plan : List Image → Options → PlanTables → Result Job Rule
+job_of_plan images options text = job_unless (first_broken text) images options text
 
--- a text with the budget that the words give, or the rule of configurations that the file breaks first
-abbrev pub job_of_text : Options → Result PlanTables ConfigFault → Result Job Rule
-job_of_text options (Err fault) = Err (Config fault)
-job_of_text options (Ok text) = job_of_plan options (with_budget options.until text)
-
--- what a file of these bytes means
-abbrev pub job_of_file : Options → List ℕ → Result Job Rule
-job_of_file options bytes = job_of_text options (config_of bytes)
+-- the job of a text with the programs that were loaded for it, or the rule that one of them breaks
+abbrev pub job_of_programs : Result (List Image) ProgramBreach → Options → PlanTables → Result Job Rule
+job_of_programs (Ok images) options text = job_of_plan images options (with_budget options.until text)
+job_of_programs (Err breach) options text = Err (Program breach)
 
 -- the budget that a command gives in place of its file's is one that a file may have
 abbrev pub IsWithin : Command → Type 0
@@ -60,31 +85,75 @@ IsWithin (commands.Check file) = Unit {0}
 IsWithin (commands.Run file options) = IfSome options.until (λ t. t.0 ≤ latest)
 IsWithin (commands.Slow file options) = IfSome options.until (λ t. t.0 ≤ latest)
 
--- what a command means, where its file has these bytes; a ring has no file
-abbrev pub job_for : Command → List ℕ → Result Job Rule
-job_for (commands.Ring ring) bytes = Ok (record { plan = ring_plan ring.relays ring.until.0; programs = 0; options = no_options })
-job_for (commands.Check file) bytes = job_of_file no_options bytes
-job_for (commands.Run file options) bytes = job_of_file options bytes
-job_for (commands.Slow file options) bytes = job_of_file options bytes
+-- what files mean that give bytes by their names
+module _ (gives : List ℕ → List ℕ → Type 0) where
+  -- a file gives this program
+  abbrev pub IsProgramIn : List ℕ → Image → Type 0
+  IsProgramIn file image = (bytes : List ℕ) × gives file bytes × IsImageOf bytes image
 
--- the bytes of a command's file, where the files tell their contents; a ring needs none
-abbrev pub told_for : (List ℕ → Option (List ℕ)) → Command → Option (List ℕ)
-told_for contents (commands.Ring ring) = Some []
-told_for contents (commands.Check file) = contents file
-told_for contents (commands.Run file options) = contents file
-told_for contents (commands.Slow file options) = contents file
+  -- these are the programs of the first of these tables, in their order
+  abbrev pub AreLoaded : List ProgramTable → List Image → Type 0
+  AreLoaded tables [] = Unit {0}
+  AreLoaded [] (image ∷ images) = ⊥
+  AreLoaded (table ∷ tables) (image ∷ images) = IsProgramIn table.file image × AreLoaded tables images
 
--- a file gave some bytes, which are its own where they are told
-abbrev pub Gave : Option (List ℕ) → (List ℕ → Type 0) → Type 0
-Gave told fact = (bytes : List ℕ) × IfSome told (λ own. bytes ≡ own) × fact bytes
+  -- a file breaks a rule of the format first
+  abbrev pub BreaksFormat : List ℕ → ProgramBreach → Type 0
+  BreaksFormat file breach = (bytes : List ℕ) × gives file bytes × IsFirstBroken bytes breach
 
--- it means this for the bytes that were read, which are those of the file where the files tell them
+  -- the next program that is read behind some that were loaded
+  pub record IsNext (tables : List ProgramTable) (before : List Image) (table : ProgramTable) : Type 0 where
+    pub loaded : AreLoaded tables before
+    pub here : slice_get tables (length before) ≡ Some table
+
+  -- the programs of these tables are read in their order, up to the first whose file breaks a rule of the format
+  abbrev pub AreRead : List ProgramTable → Result (List Image) ProgramBreach → Type 0
+  AreRead tables (Ok images) = AreLoaded tables images × (length images ≡ length tables)
+  AreRead tables (Err breach) = (before : List Image) × (table : ProgramTable) × IsNext tables before table × (breach.program ≡ length before) × BreaksFormat table.file breach
+
+  -- what a text means, or the rule of configurations that its file breaks
+  abbrev pub MeansText : Options → Result PlanTables ConfigFault → Result Job Rule → Type 0
+  MeansText options (Ok text) meaning = (read : Result (List Image) ProgramBreach) × AreRead text.programs read × (job_of_programs read options text ≡ meaning)
+  MeansText options (Err fault) meaning = Err (Config fault) ≡ meaning
+
+  -- what a file means: its rules of configurations come first, then the programs that it names, then the rules of plans
+  abbrev pub MeansFile : Options → List ℕ → Result Job Rule → Type 0
+  MeansFile options file meaning = (bytes : List ℕ) × gives file bytes × MeansText options (config_of bytes) meaning
+
+  -- what a command means; a ring has no file
+  abbrev pub MeansCommand : Command → Result Job Rule → Type 0
+  MeansCommand (commands.Ring ring) meaning = Ok (record { plan = ring_plan ring.relays ring.until.0; programs = 0; options = no_options }) ≡ meaning
+  MeansCommand (commands.Check file) meaning = MeansFile no_options file meaning
+  MeansCommand (commands.Run file options) meaning = MeansFile options file meaning
+  MeansCommand (commands.Slow file options) meaning = MeansFile options file meaning
+
+  -- the name of a program's file that is read
+  abbrev pub IsProgramName : List ProgramTable → List ℕ → Type 0
+  IsProgramName tables name = (before : List Image) × (table : ProgramTable) × IsNext tables before table × (name ≡ table.file)
+
+  -- the same for a text, whose programs are read where its file breaks no rule of configurations
+  abbrev pub IsNameOfText : Result PlanTables ConfigFault → List ℕ → Type 0
+  IsNameOfText (Ok text) name = IsProgramName text.programs name
+  IsNameOfText (Err fault) name = ⊥
+
+  -- a name of a file that is read for a file: its own, or that of a program
+  abbrev pub IsNameOfFile : List ℕ → List ℕ → Type 0
+  IsNameOfFile file name = (name ≡ file) ⊎ ((bytes : List ℕ) × gives file bytes × IsNameOfText (config_of bytes) name)
+
+  -- a name of a file that is read for a command
+  abbrev pub IsNameOf : Command → List ℕ → Type 0
+  IsNameOf (commands.Ring ring) name = ⊥
+  IsNameOf (commands.Check file) name = IsNameOfFile file name
+  IsNameOf (commands.Run file options) name = IsNameOfFile file name
+  IsNameOf (commands.Slow file options) name = IsNameOfFile file name
+
+-- it means this for the bytes that were read, which are those of the files where the files tell them
 abbrev pub Means : (List ℕ → Option (List ℕ)) → Command → Result Job Rule → Type 0
-Means contents command meaning = Gave (told_for contents command) (λ bytes. job_for command bytes ≡ meaning)
+Means contents command meaning = MeansCommand (AreOwn contents) command meaning
 
 -- it means this, as the files tell
 abbrev pub IsTold : (List ℕ → Option (List ℕ)) → Command → Result Job Rule → Type 0
-IsTold contents command meaning = (bytes : List ℕ) × (told_for contents command ≡ Some bytes) × (job_for command bytes ≡ meaning)
+IsTold contents command meaning = MeansCommand (AreTold contents) command meaning
 
 -- a command that has no file
 abbrev pub IsFileless : Command → Type 0
@@ -104,8 +173,16 @@ IsFaultOfReading read rule (refusals.Config fault) = rule fault
 IsFaultOfReading read rule refusals.OutOfMemory = Unit {0}
 IsFaultOfReading read rule refusal = ⊥
 
--- where a plan is made: a rule of plans is broken, or no memory was found
-abbrev pub IsFaultOfPlan : (Breach → Type 0) → Refusal → Type 0
-IsFaultOfPlan rule (refusals.Plan breach) = rule breach
+-- where programs are read: a reading fails, a program breaks a rule, or no memory was found
+abbrev pub IsFaultOfProgram : (List ℕ → Type 0) → (ProgramBreach → Type 0) → Refusal → Type 0
+IsFaultOfProgram read rule (refusals.Read file) = read file
+IsFaultOfProgram read rule (refusals.Program breach) = rule breach
+IsFaultOfProgram read rule refusals.OutOfMemory = Unit {0}
+IsFaultOfProgram read rule refusal = ⊥
+
+-- where a plan is made: a rule of plans is broken or a segment has no port, or no memory was found
+abbrev pub IsFaultOfPlan : (Rule → Type 0) → Refusal → Type 0
+IsFaultOfPlan rule (refusals.Program breach) = rule (Program breach)
+IsFaultOfPlan rule (refusals.Plan breach) = rule (Plan breach)
 IsFaultOfPlan rule refusals.OutOfMemory = Unit {0}
 IsFaultOfPlan rule refusal = ⊥

@@ -1,5 +1,5 @@
 -- What a run of the program leaves.
-use Rattle.std.specs.Prelude.{◌≡◌, ℕ, ◌+◌, ◌<◌, ◌≤◌, List, [], ◌∷◌, ◌++◌, length, codes, false, Option, Some, None, ◌⊎◌, Ok, Err}
+use Rattle.std.specs.Prelude.{◌≡◌, ℕ, ◌+◌, ◌≤◌, List, [], ◌++◌, length, replicate, codes, Bool, true, false, Option, Some, None, ◌⊎◌, Ok, Err}
 use Rattle.std.specs.Fmt.{decimal}
 use Rattle.tick_law.specs.PlanView.{PlanView, system_of}
 use Rattle.tick_law.specs.SerialLoop.{System, world_at, records_below, edges_below}
@@ -14,7 +14,10 @@ use Rattle.sim_io.specs.Sink.{Rose, Got, GotPrefix}
 use Rattle.state_view.specs.Report.{report_of}
 use Rattle.state_view.specs.declared.run_end.RunEnd.{RunEnd}
 use Rattle.trace_out.specs.Lines.{lines_of}
+use Rattle.task_stats.specs.Tasks.{TasksView, no_tasks}
+use Rattle.run_gear.specs.Counted.{counted_with}
 use Rattle.run_gear.specs.PlanNames.{names_of}
+use Rattle.run_gear.specs.Written.{GotSomeLines}
 use Rattle.run_gear.specs.declared.fault.RunFault.{RunFault}
 use Rattle.run_gear.specs.declared.fault.RunFault.TheVariants as faults
 use Rattle.top_run.specs.declared.command.Options.{Options}
@@ -26,8 +29,8 @@ use Rattle.top_run.specs.declared.refusal.Refusal.{Refusal}
 use Rattle.top_run.specs.declared.refusal.Refusal.TheVariants as refusals
 use Rattle.top_run.specs.Words.{Accepts, RefusedAt}
 use Rattle.top_run.specs.declared.job.Job.{Job}
-use Rattle.top_run.specs.Job.{Rule, Config, Plan, Means}
-use Rattle.top_run.specs.Refusals.{line_feed, config_line, plan_line, read_line}
+use Rattle.top_run.specs.Job.{Rule, Config, Program, Plan, AreOwn, IsNameOf, Means}
+use Rattle.top_run.specs.Refusals.{config_line, program_line, plan_line}
 
 -- the serial loop's run of a plan, which ticks every actor at every edge up to the budget
 abbrev pub loop_of : PlanView Part LinkKind → System Part LinkKind
@@ -41,14 +44,23 @@ plan_verdict plan = verdict_at (loop_of plan) plan.until
 abbrev pub plan_end : PlanView Part LinkKind → RunEnd
 plan_end plan = record { budget = record { 0 = plan.until }; verdict = plan_verdict plan; end = record { 0 = end_at (loop_of plan) plan.until } }
 
--- the report of that run: of its world behind the last time, and of its end; with the bytes of the memories where the options ask
--- for them
-abbrev pub plan_report : Options → PlanView Part LinkKind → List ℕ
-plan_report options plan = report_of (names_of plan) (world_at (loop_of plan) (plan.until + 1)) (plan_end plan) None options.dump
+-- what is counted of the requests of so many parts before a run, where they are counted
+abbrev pub no_counts : Bool → ℕ → Option (List TasksView)
+no_counts true parts = Some (replicate parts no_tasks)
+no_counts false parts = None
 
--- the lines of the records of that run below a boundary: those of bytes that cores wrote, at the end of each time
-abbrev pub plan_lines : PlanView Part LinkKind → ℕ → List ℕ
-plan_lines plan d = lines_of (names_of plan) false (records_below (loop_of plan) d)
+-- what the records of that run tell of the requests of its parts, where the options ask for it
+abbrev pub plan_counts : Options → PlanView Part LinkKind → Option (List TasksView)
+plan_counts options plan = counted_with (no_counts options.stats (length plan.parts)) (records_below (loop_of plan) (plan.until + 1))
+
+-- the report of that run: of its world behind the last time, and of its end; with what its records tell of requests, and with the
+-- registers of the cores and the bytes of the memories, where the options ask for them
+abbrev pub plan_report : Options → PlanView Part LinkKind → List ℕ
+plan_report options plan = report_of (names_of plan) (world_at (loop_of plan) (plan.until + 1)) (plan_end plan) (plan_counts options plan) options.dump
+
+-- the lines of the records of that run below a boundary: those of all, or those of bytes that cores wrote
+abbrev pub plan_lines : Bool → PlanView Part LinkKind → ℕ → List ℕ
+plan_lines all plan d = lines_of (names_of plan) all (records_below (loop_of plan) d)
 
 -- the steps that an engine is charged for below a boundary: one for each pair of an actor and an edge of it at which it is awake,
 -- or one for each edge
@@ -84,7 +96,7 @@ job_status (Some engine) job = status_of (plan_verdict job.plan)
 -- the lines of its run below a boundary
 abbrev pub job_lines : Option Engine → Job → ℕ → List ℕ
 job_lines None job d = []
-job_lines (Some engine) job d = plan_lines job.plan d
+job_lines (Some engine) job d = plan_lines job.options.trace job.plan d
 
 -- all its lines
 abbrev pub all_lines : Option Engine → Job → List ℕ
@@ -122,9 +134,15 @@ pub record HasRun (contents : List ℕ → Option (List ℕ)) (words : List (Lis
   pub written : Got old new (job_written (engine_of command) job)
   pub steps : after ≡ before + job_steps (engine_of command) job
 
--- a write of a line at the end of a time failed: the object got a prefix of the lines of the run below the boundary behind it
+-- a write of a line of the last time below boundary d failed: the object got the lines of all earlier times, and then a prefix of
+-- those of that time, which has one
+abbrev pub PlanFailed : Bool → PlanView Part LinkKind → Option (List ℕ) → Option (List ℕ) → ℕ → Type 0
+PlanFailed all plan old new d = (d ≤ plan.until + 1) × GotSomeLines plan (loop_of plan) all d old new
+
+-- the same of a job; a check has no lines
 abbrev pub FailedAt : Option Engine → Job → Option (List ℕ) → Option (List ℕ) → ℕ → Type 0
-FailedAt engine job old new d = (d ≤ job.plan.until + 1) × GotPrefix old new (job_lines engine job d)
+FailedAt None job old new d = ⊥
+FailedAt (Some engine) job old new d = PlanFailed job.options.trace job.plan old new d
 
 -- the write of the report failed: the object got all lines of the run, and a prefix of its report
 abbrev pub FailedBehind : Option Engine → Job → Option (List ℕ) → Option (List ℕ) → Type 0
@@ -134,24 +152,25 @@ FailedBehind engine job old new = (held : Option (List ℕ)) × Got old held (al
 abbrev pub SomeJob : (List ℕ → Option (List ℕ)) → List (List ℕ) → (Command → Job → Type 0) → Type 0
 SomeJob contents words fact = (command : Command) × (job : Job) × IsJob contents words command job × fact command job
 
--- the reading of the command's file failed: the count of faults of its name rose
-abbrev pub ReadFailed : (List ℕ → ℕ) → (List ℕ → ℕ) → Command → Type 0
-ReadFailed before after (commands.Ring ring) = ⊥
-ReadFailed before after (commands.Check file) = Rose (before file) (after file)
-ReadFailed before after (commands.Run file options) = Rose (before file) (after file)
-ReadFailed before after (commands.Slow file options) = Rose (before file) (after file)
+-- the reading of this file failed, which is one of the command's: the count of faults of its name rose
+abbrev pub ReadFailed : (List ℕ → Option (List ℕ)) → (List ℕ → ℕ) → (List ℕ → ℕ) → Command → List ℕ → Type 0
+ReadFailed contents before after command name = IsNameOf (AreOwn contents) command name × Rose (before name) (after name)
 
--- the line of such a failure
-abbrev pub read_line_for : Command → List ℕ
-read_line_for (commands.Ring ring) = []
-read_line_for (commands.Check file) = read_line file
-read_line_for (commands.Run file options) = read_line file
-read_line_for (commands.Slow file options) = read_line file
+-- that of some file of the command
+abbrev pub SomeReadFailed : (List ℕ → Option (List ℕ)) → (List ℕ → ℕ) → (List ℕ → ℕ) → Command → Type 0
+SomeReadFailed contents before after command = (name : List ℕ) × ReadFailed contents before after command name
 
 -- the line of a broken rule
 abbrev pub rule_line : Rule → List ℕ
 rule_line (Config fault) = config_line fault
+rule_line (Program breach) = program_line breach
 rule_line (Plan breach) = plan_line breach
+
+-- and the status
+abbrev pub rule_status : Rule → ℕ
+rule_status (Config fault) = 3
+rule_status (Program breach) = 4
+rule_status (Plan breach) = 3
 
 -- what a refusal of a run of a plan says: a line was not written at a boundary, or no memory was found
 abbrev pub IsFaultOfRun : (ℕ → Type 0) → Type 0 → Refusal → Type 0
@@ -170,6 +189,7 @@ IsFaultOfJob behind at memory refusal = ⊥
 abbrev pub IsFaultOfFile : (List ℕ → Type 0) → (Rule → Type 0) → Refusal → Type 0
 IsFaultOfFile read rule (refusals.Read file) = read file
 IsFaultOfFile read rule (refusals.Config fault) = rule (Config fault)
+IsFaultOfFile read rule (refusals.Program breach) = rule (Program breach)
 IsFaultOfFile read rule (refusals.Plan breach) = rule (Plan breach)
 IsFaultOfFile read rule refusals.OutOfMemory = Unit {0}
 IsFaultOfFile read rule refusal = ⊥
@@ -178,9 +198,13 @@ IsFaultOfFile read rule refusal = ⊥
 abbrev pub SomeFile : List (List ℕ) → (Command → Type 0) → Type 0
 SomeFile words fact = (command : Command) × Accepts words command × fact command
 
+-- the statuses of broken rules
+abbrev pub IsBroken : ℕ → Type 0
+IsBroken status = (status ≡ 3) ⊎ (status ≡ 4)
+
 -- the statuses of refusals: of words, of rules and of readings
 abbrev pub IsRefusal : ℕ → Type 0
-IsRefusal status = (status ≡ 2) ⊎ ((status ≡ 3) ⊎ (status ≡ 5))
+IsRefusal status = (status ≡ 2) ⊎ (IsBroken status ⊎ (status ≡ 5))
 
 -- all statuses
 abbrev pub IsStatus : ℕ → Type 0
@@ -190,8 +214,9 @@ IsStatus status = IsVerdict status ⊎ (IsRefusal status ⊎ ((status ≡ 6) ⊎
 -- after
 abbrev pub IsCause : (List ℕ → Option (List ℕ)) → (List ℕ → ℕ) → (List ℕ → ℕ) → List (List ℕ) → ℕ → ℕ → Option (List ℕ) → Option (List ℕ) → Refusal → Type 0
 IsCause contents first last words before after old new (refusals.Usage k) = RefusedAt words k
-IsCause contents first last words before after old new (refusals.Read file) = SomeFile words (λ command. ReadFailed first last command × (read_line file ≡ read_line_for command))
+IsCause contents first last words before after old new (refusals.Read file) = SomeFile words (λ command. ReadFailed contents first last command file)
 IsCause contents first last words before after old new (refusals.Config fault) = SomeFile words (λ command. Means contents command (Err (Config fault)))
+IsCause contents first last words before after old new (refusals.Program breach) = SomeFile words (λ command. Means contents command (Err (Program breach)))
 IsCause contents first last words before after old new (refusals.Plan breach) = SomeFile words (λ command. Means contents command (Err (Plan breach)))
 IsCause contents first last words before after old new refusals.Write = Rose before after × SomeJob contents words (λ command job. FailedBehind (engine_of command) job old new)
 IsCause contents first last words before after old new (refusals.WriteAt d) = Rose before after × SomeJob contents words (λ command job. FailedAt (engine_of command) job old new d.0)
@@ -202,6 +227,7 @@ abbrev pub IsUnwritten : Type 0 → Refusal → Type 0
 IsUnwritten same (refusals.Usage k) = same
 IsUnwritten same (refusals.Read file) = same
 IsUnwritten same (refusals.Config fault) = same
+IsUnwritten same (refusals.Program breach) = same
 IsUnwritten same (refusals.Plan breach) = same
 IsUnwritten same refusal = Unit {0}
 

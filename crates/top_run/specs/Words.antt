@@ -1,13 +1,12 @@
 -- The words that the program accepts, and where others are refused.
-use Rattle.std.specs.Prelude.{◌≡◌, ◌≢◌, ℕ, ◌+◌, ◌<◌, ◌≤◌, List, [], ◌∷◌, map, take, drop, flat_map, codes, String, string_bytes, Option, Some, None, slice_get, Bool, true, false}
+use Rattle.std.specs.Prelude.{◌≡◌, ◌≢◌, ℕ, ◌+◌, ◌<◌, ◌≤◌, List, [], ◌∷◌, map, take, drop, flat_map, codes, String, string_bytes, Some, None, slice_get, Bool, true, false}
 use Rattle.std.specs.Fmt.{decimal}
 use Rattle.std.specs.Global.{Global}
-use Rattle.sim_base.specs.declared.time.Time.{Time}
 use Rattle.std.proofs.Common.{suc}
 use Rattle.top_run.specs.declared.command.Ring.{Ring}
 use Rattle.top_run.specs.declared.command.Options.{Options}
 use Rattle.top_run.specs.declared.command.Detail.{Detail}
-use Rattle.top_run.specs.declared.command.Detail.TheVariants.{Dump}
+use Rattle.top_run.specs.declared.command.Detail.TheVariants.{Trace, Stats, Dump}
 use Rattle.top_run.specs.declared.command.Command.{Command}
 use Rattle.top_run.specs.declared.command.Command.TheVariants as commands
 use Rattle.top_run.specs.declared.refusal.Refusal.{Refusal}
@@ -31,14 +30,20 @@ IsFile name = (first : ℕ) × (slice_get name 0 ≡ Some first) × (first ≢ 4
 
 -- the word that asks for a detail
 abbrev pub detail_word : Detail → List ℕ
+detail_word Trace = codes "--trace"
+detail_word Stats = codes "--stats"
 detail_word Dump = codes "--dump"
 
 -- the options ask for it
 abbrev pub has_detail : Options → Detail → Bool
+has_detail options Trace = options.trace
+has_detail options Stats = options.stats
 has_detail options Dump = options.dump
 
 -- the options and this detail beside them
 abbrev pub with_detail : Options → Detail → Options
+with_detail options Trace = record options { trace = true }
+with_detail options Stats = record options { stats = true }
 with_detail options Dump = record options { dump = true }
 
 -- the options with this greatest time
@@ -80,7 +85,7 @@ abbrev pub AreSettings : Options → Options → List (List ℕ) → Type 0
 AreSettings before after words = (settings : List Setting) × (words ≡ flat_map setting_words settings) × Lead before settings after
 
 abbrev pub no_options : Options
-no_options = record { until = None; dump = false }
+no_options = record { until = None; trace = false; stats = false; dump = false }
 
 -- the numbers of `ring N UNTIL`
 abbrev pub AreRing : Ring → List (List ℕ) → Type 0

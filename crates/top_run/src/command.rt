@@ -12,7 +12,11 @@ pub struct Ring {
 /// What a run shows beyond its report.
 #[derive(Clone, Copy, Debug, PartialEq, Eq)]
 pub enum Detail {
-    /// The bytes of the memories at its end.
+    /// A line for each message that is sent, moved or taken and for each halt, beside those of bytes that cores write.
+    Trace,
+    /// A line for each part that sends requests: how many it sent, how many were answered, and how long that took.
+    Stats,
+    /// The registers of the cores and the bytes of the memories at its end.
     Dump,
 }
 
@@ -21,7 +25,11 @@ pub enum Detail {
 pub struct Options {
     /// The greatest time that runs in place of the file's, at most 500,000,000,000 ps.
     pub until: Option<Time>,
-    /// Whether the report has the bytes of the memories.
+    /// Whether every record has its line.
+    pub trace: bool,
+    /// Whether the report tells of requests.
+    pub stats: bool,
+    /// Whether the report has the registers of the cores and the bytes of the memories.
     pub dump: bool,
 }
 
@@ -32,6 +40,8 @@ impl Options {
     /// No option.
     pub const NONE: Options = Options {
         until: None,
+        trace: false,
+        stats: false,
         dump: false,
     };
 
@@ -50,6 +60,8 @@ impl Options {
         ensures { result ≡ has_detail self detail }
     {
         match detail {
+            Detail::Trace => self.trace,
+            Detail::Stats => self.stats,
             Detail::Dump => self.dump,
         }
     }
@@ -59,6 +71,14 @@ impl Options {
         ensures { result ≡ with_detail self detail }
     {
         match detail {
+            Detail::Trace => Options {
+                trace: true,
+                ..self
+            },
+            Detail::Stats => Options {
+                stats: true,
+                ..self
+            },
             Detail::Dump => Options { dump: true, ..self },
         }
     }

@@ -2,15 +2,17 @@ ghost use Rattle.std.specs.Prelude.{◌≡◌, ◌≤◌, ◌<◌, ℕ, List, le
 ghost use Rattle.sim_io.specs.Sink.{Rose};
 ghost use Rattle.sim_config.specs.Meaning.{config_of};
 ghost use Rattle.top_run.specs.Words.{latest};
-ghost use Rattle.top_run.specs.Refusals.{read_line};
 ghost use Rattle.top_run.specs.Job as spec;
-ghost use Rattle.top_run.specs.Top.{ReadFailed, read_line_for, IsFaultOfFile};
+ghost use Rattle.top_run.specs.Top.{ReadFailed, IsFaultOfFile};
 
 use crate::command::{Command, FileName, Options};
+use crate::program_breach::{ProgramBreach, ProgramRule};
+use crate::programs::read_programs;
 use crate::refusal::Refusal;
+use elf_load::Image;
 use part_kind::{LinkKind, Part};
 use plan_check::{PlanFault, build};
-use plan_rules::{Breach, check};
+use plan_rules::Breach;
 use ring_plan::ring_plan;
 use sim_base::Time;
 use sim_config::{ConfigFault, ConfigRule, LONGEST_CONFIG, PlanText, TableNo, read_config};
@@ -52,6 +54,7 @@ fn read_text<F: Files>(alloc: Global, files: &mut F, file: &FileName) -> Result<
         (λ bytes. config_of bytes ≡ Err fault))) }
 
     ensures contents { (name : List ℕ) → F.contents files.new name ≡ F.contents files.old name }
+    ensures never_falls { (name : List ℕ) → F.faults files.old name ≤ F.faults files.new name }
 {
     match files.read_file(alloc, file.as_str(), LONGEST_CONFIG) {
         Ok(bytes) => text_of(alloc, &bytes),
@@ -76,40 +79,31 @@ fn with_budget(text: PlanText, until: Option<Time>) -> PlanText
     }
 }
 
-/// Why a text with programs is not run: the rule of plans that it breaks, or else that no program is read yet.
-fn unread_programs(alloc: Global, text: &PlanText, options: Options) -> Refusal
-    requires some { 0 < length text.now.programs }
-    ensures { IsFaultOfFile (λ name. ⊥) (λ rule. spec.job_of_plan options text.now ≡ Err rule) result }
-{
-    match check(alloc, text) {
-        Ok(_) => Refusal::Config(ConfigFault::Broken {
-            rule: ConfigRule::UnknownKey,
-            table: TableNo::Top,
-            key: None,
-        }),
-        Err(PlanFault::Broken { rule, table }) => Refusal::Plan(Breach { rule, table }),
-        Err(PlanFault::Unmapped { .. }) => unreachable!(),
-        Err(PlanFault::OutOfMemory) => Refusal::OutOfMemory,
-    }
-}
+/// The job of a text with its programs and these options, or the rule that it breaks.
+fn job_of_text(
+    alloc: Global,
+    text: &PlanText,
+    images: &[Image],
+    options: Options,
+) -> Result<Job, Refusal>
+    requires count { length images.now ≡ length text.now.programs }
 
-/// The job of a text with these options, or the rule that it breaks.
-fn job_of_text(alloc: Global, text: &PlanText, options: Options) -> Result<Job, Refusal>
-    ensures job { IfOk result (λ job. spec.job_of_plan options text.now ≡ Ok job) }
-    ensures fault { IfErr result
-        (IsFaultOfFile (λ name. ⊥) (λ rule. spec.job_of_plan options text.now ≡ Err rule)) }
+    ensures job { IfOk result (λ job. spec.job_of_plan images.now options text.now ≡ Ok job) }
+    ensures fault { IfErr result (spec.IsFaultOfPlan
+        (λ rule. spec.job_of_plan images.now options text.now ≡ Err rule)) }
 {
-    if !text.programs.items().is_empty() {
-        return Err(unread_programs(alloc, text, options));
-    }
-    match build(alloc, text, &[]) {
+    match build(alloc, text, images) {
         Ok(plan) => Ok(Job {
             plan,
-            programs: 0,
+            programs: images.len(),
             options,
         }),
         Err(PlanFault::Broken { rule, table }) => Err(Refusal::Plan(Breach { rule, table })),
-        Err(PlanFault::Unmapped { .. }) => unreachable!(),
+        Err(PlanFault::Unmapped { program, at }) => Err(Refusal::Program(ProgramBreach {
+            program: program as usize,
+            rule: ProgramRule::SegmentUnmapped,
+            at,
+        })),
         Err(PlanFault::OutOfMemory) => Err(Refusal::OutOfMemory),
     }
 }
@@ -123,31 +117,32 @@ fn file_job<F: Files>(
 ) -> Result<Job, Refusal>
     requires within { IfSome options.until (λ t. t.0 ≤ latest) }
 
-    ensures job { IfOk result (λ job. spec.Gave (F.contents files.old file.now)
-        (λ bytes. spec.job_of_file options bytes ≡ Ok job)) }
-
+    ensures job { IfOk result (λ job. spec.MeansFile
+        (spec.AreOwn (F.contents files.old)) options file.now (Ok job)) }
     ensures fault { IfErr result (IsFaultOfFile
-        (λ name. (name ≡ file.now)
-        × Rose (F.faults files.old file.now) (F.faults files.new file.now))
-        (λ rule. spec.Gave (F.contents files.old file.now)
-        (λ bytes. spec.job_of_file options bytes ≡ Err rule))) }
+        (λ name. spec.IsNameOfFile (spec.AreOwn (F.contents files.old)) file.now name
+        × Rose (F.faults files.old name) (F.faults files.new name))
+        (λ rule. spec.MeansFile
+        (spec.AreOwn (F.contents files.old)) options file.now (Err rule))) }
 
     ensures contents { (name : List ℕ) → F.contents files.new name ≡ F.contents files.old name }
 {
     let text = read_text(alloc, files, file)?;
+    let images = read_programs(alloc, files, text.programs.items())?;
     let text = with_budget(text, options.until);
-    job_of_text(alloc, &text, options)
+    job_of_text(alloc, &text, &images, options)
 }
 
-/// The job of a command: its file is read, then the rules of configurations are tried, then those of plans.
+/// The job of a command: its file is read, then the rules of configurations are tried, then the programs that the file names are
+/// read, then the rules of plans are tried.
 pub fn read_job<F: Files>(alloc: Global, command: &Command, files: &mut F) -> Result<Job, Refusal>
     requires within { spec.IsWithin command.now }
 
     ensures job { IfOk result (λ job. spec.Means (F.contents files.old) command.now (Ok job)) }
 
     ensures fault { IfErr result (IsFaultOfFile
-        (λ name. ReadFailed (F.faults files.old) (F.faults files.new) command.now
-        × (read_line name ≡ read_line_for command.now))
+        (λ name. ReadFailed
+        (F.contents files.old) (F.faults files.old) (F.faults files.new) command.now name)
         (λ rule. spec.Means (F.contents files.old) command.now (Err rule))) }
 
     ensures contents { (name : List ℕ) → F.contents files.new name ≡ F.contents files.old name }

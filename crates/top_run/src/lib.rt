@@ -4,6 +4,8 @@
 mod carry;
 mod command;
 mod job;
+mod program_breach;
+mod programs;
 mod refusal;
 mod run;
 mod status;
@@ -14,6 +16,7 @@ mod words;
 
 pub use command::{Command, Detail, FileName, Options, Ring};
 pub use job::Job;
+pub use program_breach::{ProgramBreach, ProgramRule};
 pub use run::Engine;
 pub use status::Status;
 pub use top::plain;

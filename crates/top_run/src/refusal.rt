@@ -1,12 +1,13 @@
 ghost use Rattle.std.specs.Prelude.{◌≡◌, ◌<◌, length, IfOk, string_bytes};
-ghost use Rattle.top_run.specs.Refusals.{usage_line, config_line, plan_line, read_line, write_at_line};
+ghost use Rattle.top_run.specs.Refusals.{usage_line, config_line, byte_words, place_words, program_line, plan_line, read_line, write_at_line};
 
 use crate::command::FileName;
+use crate::program_breach::ProgramBreach;
 use itoa::Buffer;
 use plan_rules::Breach;
 use sim_base::{OutOfMemory, Time};
 use sim_config::ConfigFault;
-use std::alloc::{AllocError, Global};
+use std::alloc::{AllocError, AllocFailed, Global};
 use trace_out::{Line, add};
 
 /// Why a run of the program ends without a verdict.
@@ -18,6 +19,8 @@ pub enum Refusal {
     Read(FileName),
     /// The file breaks a rule of configurations.
     Config(ConfigFault),
+    /// A program's file breaks a rule of the format, or a segment of it has no port.
+    Program(ProgramBreach),
     /// The file breaks a rule of plans.
     Plan(Breach),
     /// A write of the report failed.
@@ -49,6 +52,17 @@ impl From<AllocError> for Refusal {
     }
 }
 
+impl<T: Drop> From<AllocFailed<T>> for Refusal {
+    ghost use Rattle.std.specs.Prelude.{◌≡◌};
+    ghost use Rattle.top_run.specs.declared.refusal.Refusal.TheVariants.{OutOfMemory};
+
+    ghost from_gives = { λ _ refusal. refusal ≡ OutOfMemory };
+
+    fn from(_failed: AllocFailed<T>) -> Self {
+        Refusal::OutOfMemory
+    }
+}
+
 /// The line of words that are refused.
 pub fn usage_line(alloc: Global, word: usize) -> Result<String, AllocError>
     ensures text { IfOk result (λ line. string_bytes line ≡ usage_line word) }
@@ -72,6 +86,31 @@ pub fn config_line(alloc: Global, fault: ConfigFault) -> Result<String, AllocErr
     ensures some { IfOk result (λ line. 0 < length (string_bytes line)) }
 {
     format!(in alloc; "akita: config: {fault}\n")
+}
+
+/// The byte place at which a program breaks a rule, and the end of the line.
+fn byte_text(alloc: Global, at: u32) -> Result<String, AllocError>
+    ensures { IfOk result (λ text. string_bytes text ≡ byte_words at) }
+{
+    format!(in alloc; " at {at}\n")
+}
+
+/// Where a program breaks a rule, and the end of the line.
+fn place_text(alloc: Global, program: usize, at: u32) -> Result<String, AllocError>
+    ensures { IfOk result (λ text. string_bytes text ≡ place_words program at) }
+{
+    let byte = byte_text(alloc, at)?;
+    format!(in alloc; "{program}{byte}")
+}
+
+/// The line of a program that breaks a rule.
+pub fn program_line(alloc: Global, breach: ProgramBreach) -> Result<String, AllocError>
+    ensures text { IfOk result (λ line. string_bytes line ≡ program_line breach) }
+    ensures some { IfOk result (λ line. 0 < length (string_bytes line)) }
+{
+    let rule = breach.rule;
+    let place = place_text(alloc, breach.program, breach.at)?;
+    format!(in alloc; "akita: program: {rule} {place}")
 }
 
 /// The line of a file that breaks a rule of plans.

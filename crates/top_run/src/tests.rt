@@ -1,3 +1,5 @@
+mod programs;
+
 ghost use Rattle.std.specs.Prelude.{◌≡◌, ◌<◌};
 
 use crate::{Status, plain};
@@ -7,6 +9,9 @@ use std::alloc::{AllocError, Global};
 use std::marker::Brand;
 use std::sync::ledger::{Blank, Ledger};
 use std::test::Fail;
+
+mod failed_lines;
+mod traces;
 
 /// What a run leaves: its status, and what was written to standard output and to standard error.
 #[derive(Drop)]
@@ -56,15 +61,22 @@ fn ran(
     run::<Brand>(alloc, Blank::new(1), words, files, out_fails, err_fails)
 }
 
-/// Runs these words with a file of these bytes, whose name is `f`.
-fn ran_file(alloc: Global, words: &[&str], bytes: &[u8]) -> Result<Left, AllocError> {
+/// Runs these words with files of these names and bytes.
+fn ran_files(alloc: Global, words: &[&str], files: &[(&str, &[u8])]) -> Result<Left, AllocError> {
     let mut list = Vec::new(alloc);
-    list.push(MemFile {
-        name: Body::of(Vec::from_slice(alloc, b"f")?),
-        bytes: Body::of(Vec::from_slice(alloc, bytes)?),
-    })?;
+    for (name, bytes) in files {
+        list.push(MemFile {
+            name: Body::of(Vec::from_slice(alloc, name.as_bytes())?),
+            bytes: Body::of(Vec::from_slice(alloc, bytes)?),
+        })?;
+    }
     let files = MemFiles::of(list, Vec::new(alloc));
     run::<Brand>(alloc, Blank::new(1), words, files, &[], &[])
+}
+
+/// Runs these words with a file of these bytes, whose name is `f`.
+fn ran_file(alloc: Global, words: &[&str], bytes: &[u8]) -> Result<Left, AllocError> {
+    ran_files(alloc, words, &[("f", bytes)])
 }
 
 #[test]

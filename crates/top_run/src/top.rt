@@ -4,13 +4,15 @@ ghost use Rattle.top_run.specs.Words.{spelled, Accepts, IsAccepted, RefusedAt};
 ghost use Rattle.top_run.specs.declared.command.Command.{Command};
 ghost use Rattle.top_run.specs.declared.job.Job.{Job};
 ghost use Rattle.top_run.specs.Job.{Rule, Means, IsTold};
-ghost use Rattle.top_run.specs.Refusals.{usage_line, read_line, config_line, plan_line, write_line, write_at_line, memory_line, Told};
-ghost use Rattle.top_run.specs.Top.{engine_of, job_status, all_lines, job_written, HasRun, FailedAt, FailedBehind, ReadFailed, read_line_for, rule_line};
-ghost use Rattle.top_run.specs.Top.{IsVerdict, IsStatus, IsRefusal, SomeJob, SomeFile, IsCause, IsUnwritten, IsUnread, IsUnreported};
+ghost use Rattle.top_run.specs.Refusals.{usage_line, read_line, config_line, program_line, plan_line, write_line, write_at_line, memory_line, Told};
+ghost use Rattle.top_run.specs.Top.{engine_of, job_status, all_lines, job_written, HasRun, FailedAt, FailedBehind, ReadFailed, SomeReadFailed, rule_line, rule_status};
+ghost use Rattle.top_run.specs.Top.{IsVerdict, IsStatus, IsBroken, IsRefusal, SomeJob, SomeFile, IsCause, IsUnwritten, IsUnread, IsUnreported};
 
 use crate::carry::{carry_out, engine_of};
 use crate::job::read_job;
-use crate::refusal::{Refusal, config_line, plan_line, read_line, usage_line, write_at_line};
+use crate::refusal::{
+    Refusal, config_line, plan_line, program_line, read_line, usage_line, write_at_line,
+};
 use crate::status::Status;
 use crate::words::read_words;
 use sim_base::{Steps, Time};
@@ -87,11 +89,13 @@ fn run_words<F: Files, K: Sink, L: Ledger>(
 
 /// Runs the program on its words, and answers the status that it ends with. It waits for nobody.
 ///
-/// The words are looked at first, then the file that they name is read, then its rules are tried. The lines of the run and then its
-/// report go to `out`. Every refusal is one line on `err`: `akita: usage: word K` names the first word that no accepted list of
-/// words has there, `akita: read: FILE` a file whose reading failed, `akita: config: RULE TABLE KEY` and `akita: plan: RULE TABLE`
-/// the first rule that a file breaks, `akita: write at D` a failed write of a line with the boundary D behind its time,
-/// `akita: write` a failed write of the report, `akita: memory` want of memory. A failure of `err` changes no status.
+/// The words are looked at first, then the file that they name is read and its rules of configurations are tried, then the
+/// programs that it names are read one after the other, then its rules of plans are tried. The lines of the run and then its report
+/// go to `out`. Every refusal is one line on `err`: `akita: usage: word K` names the first word that no accepted list of words has
+/// there, `akita: read: FILE` a file whose reading failed, `akita: config: RULE TABLE KEY` and `akita: plan: RULE TABLE` the first
+/// rule that a file breaks, `akita: program: RULE P at BYTE` the first rule that program P breaks and the byte place in its file,
+/// `akita: write at D` a failed write of a line with the boundary D behind its time, `akita: write` a failed write of the report,
+/// `akita: memory` want of memory. A failure of `err` changes no status.
 pub fn plain<F: Files, K: Sink, E: Sink, L: Ledger>(
     alloc: Global,
     words: &[String],
@@ -110,7 +114,7 @@ pub fn plain<F: Files, K: Sink, E: Sink, L: Ledger>(
     ensures complete { (command : Command) (job : Job) → Accepts (spelled words.now) command
         → IsTold (F.contents files.old) command (Ok job)
         → (Rose (K.faults out.old) (K.faults out.new) → ⊥)
-        → (ReadFailed (F.faults files.old) (F.faults files.new) command → ⊥)
+        → (SomeReadFailed (F.contents files.old) (F.faults files.old) (F.faults files.new) command → ⊥)
         → IfSome result (λ s. (s.0 ≡ 8) ⊎ ((s.0 ≡ job_status (engine_of command) job)
         × Got (K.told out.old) (K.told out.new) (job_written (engine_of command) job))) }
 
@@ -121,20 +125,21 @@ pub fn plain<F: Files, K: Sink, E: Sink, L: Ledger>(
         → IfSome result (λ s. (s.0 ≡ 2) ⊎ (s.0 ≡ 8)) }
     ensures accepted { IsAccepted (spelled words.now) → IfSome result (λ s. s.0 ≢ 2) }
 
-    ensures read { IfSome result (λ s. s.0 ≡ 5 → SomeFile (spelled words.now) (λ command.
-        ReadFailed (F.faults files.old) (F.faults files.new) command
-        × Told (read_line_for command)
+    ensures read { IfSome result (λ s. s.0 ≡ 5
+        → (name : List ℕ) × SomeFile (spelled words.now) (λ command.
+        ReadFailed (F.contents files.old) (F.faults files.old) (F.faults files.new) command name
+        × Told (read_line name)
         (E.told err.old) (E.told err.new) (E.faults err.old) (E.faults err.new))) }
 
-    ensures rule { IfSome result (λ s. s.0 ≡ 3
-        → (rule : Rule) × SomeFile (spelled words.now) (λ command.
+    ensures rule { IfSome result (λ s. IsBroken s.0
+        → (rule : Rule) × (s.0 ≡ rule_status rule) × SomeFile (spelled words.now) (λ command.
         Means (F.contents files.old) command (Err rule))
         × Told (rule_line rule)
         (E.told err.old) (E.told err.new) (E.faults err.old) (E.faults err.new)) }
     ensures broken { (command : Command) (rule : Rule) → Accepts (spelled words.now) command
         → IsTold (F.contents files.old) command (Err rule)
-        → (ReadFailed (F.faults files.old) (F.faults files.new) command → ⊥)
-        → IfSome result (λ s. (s.0 ≡ 3) ⊎ (s.0 ≡ 8)) }
+        → (SomeReadFailed (F.contents files.old) (F.faults files.old) (F.faults files.new) command → ⊥)
+        → IfSome result (λ s. (s.0 ≡ rule_status rule) ⊎ (s.0 ≡ 8)) }
     ensures unwritten { IfSome result (λ s. IsRefusal s.0 → out.new ≡ out.old) }
 
     ensures write { IfSome result (λ s. s.0 ≡ 6 → Rose (K.faults out.old) (K.faults out.new)
@@ -159,6 +164,7 @@ pub fn plain<F: Files, K: Sink, E: Sink, L: Ledger>(
         Err(Refusal::Usage(word)) => tell_made(err, usage_line(alloc, word), Status(2)),
         Err(Refusal::Read(file)) => tell_made(err, read_line(alloc, &file), Status(5)),
         Err(Refusal::Config(fault)) => tell_made(err, config_line(alloc, fault), Status(3)),
+        Err(Refusal::Program(breach)) => tell_made(err, program_line(alloc, breach), Status(4)),
         Err(Refusal::Plan(breach)) => tell_made(err, plan_line(alloc, breach), Status(3)),
         Err(Refusal::WriteAt(upto)) => {
             tell_write_at(err, upto);

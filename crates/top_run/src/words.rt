@@ -183,6 +183,12 @@ fn detail_at(words: &[String], place: usize) -> Option<Detail>
     ensures none { result ≡ None → (d : Detail)
         → slice_get (spelled words.now) place ≡ Some (detail_word d) → ⊥ }
 {
+    if is_word(words, place, b"--trace") {
+        return Some(Detail::Trace);
+    }
+    if is_word(words, place, b"--stats") {
+        return Some(Detail::Stats);
+    }
     if is_word(words, place, b"--dump") {
         return Some(Detail::Dump);
     }

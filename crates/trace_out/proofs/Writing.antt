@@ -1,10 +1,10 @@
 -- What a sink got of a text, piece by piece.
 use Rattle.std.proofs.Common.{◌≡◌, ℕ, ◌+◌, ◌<◌, ◌≤◌, List, [], ◌∷◌, ◌++◌, length, take, drop, get_or, Option, Some, None, append_assoc, add-one, ap, refl, sym, ◌∙◌, subst, arith}
-use Rattle.std.specs.Prelude.{option_map, flat_map, count_by, Bool, true, false, Result, Ok, Err, OnErr}
+use Rattle.std.specs.Prelude.{option_map, flat_map, count_by, cond, Bool, true, false, Result, Ok, Err, OnErr}
 use Rattle.std.proofs.Math.Seq.{take-append_seam}
 use Rattle.std.proofs.lemmas.List.{take_more, take-append-drop, append-nil}
 use Rattle.std.proofs.lemmas.Grind.{flat_map-append}
-use Rattle.std.proofs.lemmas.List.Sums.{count_by_more_yes, count_by_more_no}
+use Rattle.std.proofs.lemmas.List.Sums.{get_or-le-sum_by, count_by_more_yes, count_by_more_no}
 use Rattle.sim_io.specs.Sink.{Got, GotPrefix, one_more, more_if, more_by}
 
 -- so many items of a list have a line; a count rose once for each
@@ -18,6 +18,14 @@ more_counted has items i item other first before after h is b a = by_test (has i
     by_test false e =
         a ∙ ap (λ t. more_if t before) e ∙ b
         ∙ ap (more_by first) (sym (count_by_more_no has items i other h (ap has (sym is) ∙ e)))
+
+-- where some item of a list has a line, there is one
+pub some_counted : {A : Type 0} (has : A → Bool) (items : List A) (i : ℕ) (item other : A) → i < length items → item ≡ get_or items i other → has item ≡ true → 0 < count_by has items
+some_counted has items i item other h is line =
+    let least : 1 ≤ 1 = omega arith in
+    let one : 1 ≤ cond (has (get_or items i other)) 1 0 = subst (λ t. 1 ≤ cond t 1 0) (sym (ap has (sym is) ∙ line)) least in
+    let all = get_or-le-sum_by (λ x. cond (has x) 1 0) items i other h in
+    omega (arith, one, all)
 
 -- the sink got the texts of the first `count` items, and its count of faults did not fall
 pub record GotFirst {A : Type 0} (f : A → List ℕ) (items : List A) (count : ℕ) (old new : Option (List ℕ)) (before after : ℕ) : Type 0 where

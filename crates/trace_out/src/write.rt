@@ -1,4 +1,4 @@
-ghost use Rattle.std.specs.Prelude.{◌≡◌, ◌<◌, ◌≤◌, is_some, OnOk, OnErr, All};
+ghost use Rattle.std.specs.Prelude.{◌≡◌, ◌<◌, ◌≤◌, is_some, true, OnOk, OnErr, All};
 ghost use Rattle.sim_io.specs.Sink.{Rose, Got, GotPrefix, more_if, more_by};
 ghost use Rattle.trace_out.specs.Names.{actors_of};
 ghost use Rattle.trace_out.specs.Lines.{is_out, has_line, text_of, lines_of, line_count};
@@ -32,6 +32,7 @@ fn write_record<K: Sink>(
     ensures prefix { OnErr result
         (GotPrefix (K.told sink.old) (K.told sink.new) (text_of names.now all rec.now)) }
     ensures fault { OnErr result (Rose (K.faults sink.old) (K.faults sink.new)) }
+    ensures line { OnErr result (has_line all rec.now ≡ true) }
     ensures counted { K.writes sink.new ≡ more_if (has_line all rec.now) (K.writes sink.old) }
     ensures never_falls { K.faults sink.old ≤ K.faults sink.new }
     ensures telling { is_some (K.told sink.new) ≡ is_some (K.told sink.old) }
@@ -43,7 +44,7 @@ fn write_record<K: Sink>(
 }
 
 /// Writes the lines of these records in order, each by one write; without `all` only those of bytes that cores wrote.
-/// After a fault a prefix of them was written. It takes no memory.
+/// A fault comes only where there is a line, and a prefix of the lines was written then. It takes no memory.
 pub fn write_records<K: Sink>(
     recs: &RecList,
     names: &Names,
@@ -57,6 +58,7 @@ pub fn write_records<K: Sink>(
     ensures prefix { OnErr result
         (GotPrefix (K.told sink.old) (K.told sink.new) (lines_of names.now all recs.now.items)) }
     ensures fault { OnErr result (Rose (K.faults sink.old) (K.faults sink.new)) }
+    ensures some { OnErr result (0 < line_count all recs.now.items) }
 
     ensures one_each { OnOk result
         (K.writes sink.new ≡ more_by (K.writes sink.old) (line_count all recs.now.items)) }

@@ -6,12 +6,14 @@ use Rattle.sim_io.specs.Sink.{Got, GotPrefix}
 use Rattle.tick_law.specs.PlanView.{system_from}
 use Rattle.tick_law.specs.Verdict.{awake_now, awake_below}
 use Rattle.trace_out.specs.Names.{NamesView, actors_of}
-use Rattle.trace_out.specs.Lines.{lines_of}
+use Rattle.trace_out.specs.Lines.{lines_of, line_count}
+use Rattle.run_gear.specs.Counted.{counted_with}
 use Rattle.run_gear.specs.PlanNames.{names_of}
 use Rattle.phase_engine.specs.Between.{records_between}
 use Rattle.phase_engine.specs.RunGear.{places_of}
+use Rattle.run_gear.proofs.CountLaws.{counted_none}
 use Rattle.run_gear.proofs.LineLaws.{nothing_more, known_actors, rose_later}
-use Rattle.phase_engine.proofs.RunLaws.{is_due, to_due, records_jump, none_between, lines_then, prefix_then, end_then}
+use Rattle.phase_engine.proofs.RunLaws.{is_due, to_due, records_jump, none_between, lines_then, counted_more, some_between, end_then}
 use Rattle.phase_engine.proofs.run_lines.run_due.Goals as goal
 
 pub loop-t-init : goal.loop-t-init
@@ -38,6 +40,7 @@ loop-t-init g c =
       onward = due.ensures.from;
       steps = (let e = reached.steps in omega (arith, e));
       lines = nothing_more told ∙ ap (λ l. option_map (λ held. held ++ lines_of (names_of plan) c.args.all l) told) (sym none);
+      counted = counted_none c.args.stats.now ∙ ap (counted_with c.args.stats.now) (sym none);
       falls = omega arith;
       telling = refl;
     }
@@ -66,7 +69,9 @@ returns-in-Err-clause-prefix g c = λ failed.
     let t = c.loop-t.t in
     let then = c.write_records.new.sink in
     let here : GotPrefix (g.K.Sink.told c.loop-t.sink) (g.K.Sink.told then) (lines_of (names_of plan) c.args.all (c.one_time-stirred.new.gear.recs.items)) = subst (λ (n : NamesView). GotPrefix (g.K.Sink.told c.loop-t.sink) (g.K.Sink.told then) (lines_of n c.args.all (c.one_time-stirred.new.gear.recs.items))) inv.of.names_are c.in-Err.ensures.prefix in
-    prefix_then r (names_of plan) c.args.all c.args.run.now.at t (g.K.Sink.told c.args.sink.now) (g.K.Sink.told c.loop-t.sink) (g.K.Sink.told then) inv.onward inv.lines (subst (λ l. GotPrefix (g.K.Sink.told c.loop-t.sink) (g.K.Sink.told then) (lines_of (names_of plan) c.args.all l)) c.one_time-stirred.ensures.records here)
+    some_between plan r c.args.all c.args.run.now.at t (g.K.Sink.told c.args.sink.now) (g.K.Sink.told c.loop-t.sink) (g.K.Sink.told then) inv.onward
+    (subst (λ l. 0 < line_count c.args.all l) c.one_time-stirred.ensures.records c.in-Err.ensures.some) inv.lines
+    (subst (λ l. GotPrefix (g.K.Sink.told c.loop-t.sink) (g.K.Sink.told then) (lines_of (names_of plan) c.args.all l)) c.one_time-stirred.ensures.records here)
 
 pub returns-in-Err-clause-steps : goal.returns-in-Err-clause-steps
 returns-in-Err-clause-steps g c =
@@ -104,6 +109,15 @@ loop-t-preserved g c =
       onward = (let f = due.ensures.from in omega (arith, f, inv.onward));
       steps = (let e = reached.steps in omega (arith, e, z, inv.steps, c.one_time-stirred.ensures.steps));
       lines = subst (λ l. Got told (g.K.Sink.told then) (lines_of (names_of plan) c.args.all l)) (sym jumped) wrote;
+      counted =
+          counted_more r from t c.args.stats.now c.loop-t.stats c.count.new.stats now.gear.recs.items inv.onward c.one_time-stirred.ensures.records inv.counted c.count.ensures
+          ∙ ap (counted_with c.args.stats.now) (sym jumped);
       falls = (let f = c.write_records.ensures.never_falls in omega (arith, f, inv.falls));
       telling = c.write_records.ensures.telling ∙ inv.telling;
     }
+
+pub returns-in-Err-clause-counted : goal.returns-in-Err-clause-counted
+returns-in-Err-clause-counted g c =
+    let r = system_from g.P.Actor.machine g.N.Actor.machine g.C.Charter.plan g.C.Charter.start in
+    let inv = c.loop-t.invariant in
+    counted_more r c.args.run.now.at c.loop-t.t c.args.stats.now c.loop-t.stats c.count.new.stats c.one_time-stirred.new.gear.recs.items inv.onward c.one_time-stirred.ensures.records inv.counted c.count.ensures

@@ -5,6 +5,7 @@ use Rattle.tick_law.specs.SerialLoop.{end_below}
 use Rattle.tick_law.specs.PlanView.{system_from}
 use Rattle.tick_law.specs.Verdict.{awake_below}
 use Rattle.trace_out.specs.Lines.{lines_of}
+use Rattle.run_gear.specs.Counted.{counted_with}
 use Rattle.run_gear.specs.PlanNames.{names_of}
 use Rattle.phase_engine.specs.Between.{records_between}
 use Rattle.phase_engine.specs.RunGear.{IsRunGear, IsDueBy, IsAt}
@@ -29,6 +30,7 @@ invariant-loop-t g l =
       onward : l.fn.run.at ≤ l.t;
       steps : l.steps + awake_below r l.fn.run.at ≡ l.fn.steps + awake_below r l.t;
       lines : Got (g.K.Sink.told l.fn.sink) (g.K.Sink.told l.sink) (lines_of (names_of plan) l.all (records_between r l.fn.run.at l.t));
+      counted : l.stats ≡ counted_with l.fn.stats (records_between r l.fn.run.at l.t);
       falls : g.K.Sink.faults l.fn.sink ≤ g.K.Sink.faults l.sink;
       telling : is_some (g.K.Sink.told l.sink) ≡ is_some (g.K.Sink.told l.fn.sink);
     }

@@ -4,20 +4,22 @@ use Rattle.sim_base.specs.declared.time.TheConstants.{LATEST_TIME}
 use Rattle.sim_base.specs.Edge.{edge_from}
 use Rattle.sim_io.specs.Sink.{Got, GotPrefix}
 use Rattle.port_msg.specs.declared.records.Record.{Record}
-use Rattle.tick_law.specs.SerialLoop.{whole_world, world_at, records_at_time, edges_at, edges_below, end_below}
+use Rattle.tick_law.specs.SerialLoop.{whole_world, world_at, records_at_time, records_below, edges_at, edges_below, end_below}
 use Rattle.tick_law.specs.PlanView.{system_from}
 use Rattle.tick_law.specs.Verdict.{verdict_by, exists_to, all_done}
 use Rattle.model_laws.proofs.TimesPassedOver.{end_more}
 use Rattle.model_laws.specs.Boundary.{IsBoundary}
 use Rattle.model_laws.specs.NextTable.{next_at_place}
 use Rattle.trace_out.specs.Names.{actors_of}
-use Rattle.trace_out.specs.Lines.{lines_of}
+use Rattle.trace_out.specs.Lines.{lines_of, line_count}
 use Rattle.port_rows.specs.World.{state_of}
+use Rattle.run_gear.specs.Counted.{counted_with}
 use Rattle.run_gear.specs.IsGear.{IsGear}
 use Rattle.run_gear.specs.PlanNames.{names_of}
 use Rattle.serial_loop.proofs.EdgeLaws.{pass_over, edges_more}
-use Rattle.run_gear.proofs.LineLaws.{nothing_more, known_actors}
-use Rattle.serial_loop.proofs.RunLaws.{state_is, verdict_is, lines_then, prefix_then}
+use Rattle.run_gear.proofs.CountLaws.{counted_none, counted_then}
+use Rattle.run_gear.proofs.LineLaws.{nothing_more, known_actors, some_lines}
+use Rattle.serial_loop.proofs.RunLaws.{state_is, verdict_is, lines_then}
 use Rattle.serial_loop.proofs.run.run_opened.Goals as goal
 
 pub loop-t-init : goal.loop-t-init
@@ -43,7 +45,8 @@ loop-t-init g c =
       within = f.within;
       end = sym (ap (λ s. s.end) c.requires.start) ∙ sym passed.reached.ending;
       steps = (let counted = passed.counted in omega (arith, counted));
-      lines = nothing_more told ∙ ap (λ l. option_map (λ held. held ++ lines_of (names_of plan) c.args.all l) told) (sym passed.reached.records);
+      lines = nothing_more told ∙ ap (λ l. option_map (λ held. held ++ lines_of (names_of plan) c.args.kept.all l) told) (sym passed.reached.records);
+      counted = counted_none c.args.kept.stats ∙ ap (counted_with c.args.kept.stats) (sym passed.reached.records);
       falls = omega arith;
     }
 
@@ -64,9 +67,10 @@ returns-in-Err-clause-prefix g c =
     let r = system_from g.P.Actor.machine g.N.Actor.machine plan g.C.Charter.start in
     let before = g.K.Sink.told c.loop-t.sink in
     let after = g.K.Sink.told c.write_records.new.sink in
-    prefix_then r (names_of plan) c.args.all c.loop-t.t (g.K.Sink.told c.args.sink.now) before after c.loop-t.invariant.lines
-    (subst (λ n. GotPrefix before after (lines_of n c.args.all (records_at_time r c.loop-t.t))) c.requires.opened.names_are
-    (subst (λ l. GotPrefix before after (lines_of c.args.opened.names c.args.all l)) c.tick_time-stirred.ensures.records c.in-Err.ensures.prefix))
+    some_lines plan r c.args.kept.all c.loop-t.t (g.K.Sink.told c.args.sink.now) before after
+    (subst (λ l. 0 < line_count c.args.kept.all l) c.tick_time-stirred.ensures.records c.in-Err.ensures.some) c.loop-t.invariant.lines
+    (subst (λ n. GotPrefix before after (lines_of n c.args.kept.all (records_at_time r c.loop-t.t))) c.requires.opened.names_are
+    (subst (λ l. GotPrefix before after (lines_of c.args.opened.names c.args.kept.all l)) c.tick_time-stirred.ensures.records c.in-Err.ensures.prefix))
 
 pub returns-in-Err-clause-fault_steps : goal.returns-in-Err-clause-fault_steps
 returns-in-Err-clause-fault_steps g c =
@@ -94,16 +98,19 @@ loop-t-preserved g c =
     let told = g.K.Sink.told c.args.sink.now in
     let before = g.K.Sink.told c.loop-t.sink in
     let after = g.K.Sink.told c.write_records.new.sink in
-    let wrote = lines_then r (names_of plan) c.args.all t told before after inv.lines
-    (subst (λ n. Got before after (lines_of n c.args.all (records_at_time r t))) c.requires.opened.names_are
-    (subst (λ l. Got before after (lines_of c.args.opened.names c.args.all l)) did.records c.in-Ok.ensures.ok)) in
+    let wrote = lines_then r (names_of plan) c.args.kept.all t told before after inv.lines
+    (subst (λ n. Got before after (lines_of n c.args.kept.all (records_at_time r t))) c.requires.opened.names_are
+    (subst (λ l. Got before after (lines_of c.args.opened.names c.args.kept.all l)) did.records c.in-Ok.ensures.ok)) in
     record {
       gear = did.gear;
       at = record { boundary = passed.reached.boundary; settled = did.at.settled; wires = did.at.wires };
       within = f.within;
       end = end_more r t e c.loop-t.end c.later-end.result c.tick_time-stirred.result c.later-end.ensures did.flag inv.end passed.reached.ending;
       steps = edges_more r t e c.args.steps.now c.loop-t.steps now.steps inv.steps did.steps passed.counted;
-      lines = subst (λ l. Got told after (lines_of (names_of plan) c.args.all l)) (sym passed.reached.records) wrote;
+      lines = subst (λ l. Got told after (lines_of (names_of plan) c.args.kept.all l)) (sym passed.reached.records) wrote;
+      counted =
+          counted_then c.args.kept.stats c.loop-t.stats c.count.new.stats (records_below r t) (records_at_time r t) (records_below r (t + 1)) (ap (λ n. records_below r n) (add-one t)) inv.counted (c.count.ensures ∙ ap (counted_with c.loop-t.stats) did.records)
+          ∙ ap (counted_with c.args.kept.stats) (sym passed.reached.records);
       falls = (let n = c.write_records.ensures.never_falls in omega (arith, n, inv.falls));
     }
 
@@ -133,3 +140,11 @@ returns-clause-end g c =
     let inv = c.loop-t.invariant in
     let end : c.loop-t.t ≡ suc plan.until = omega (arith, c.loop-t-test.false, inv.within, c.requires.opened.until_is) in
     inv.end ∙ ap (end_below r) end
+
+pub returns-clause-stats : goal.returns-clause-stats
+returns-clause-stats g c =
+    let plan = g.C.Charter.plan in
+    let r = system_from g.P.Actor.machine g.N.Actor.machine plan g.C.Charter.start in
+    let inv = c.loop-t.invariant in
+    let end : c.loop-t.t ≡ plan.until + 1 = omega (arith, c.loop-t-test.false, inv.within, c.requires.opened.until_is) in
+    inv.counted ∙ ap (λ d. counted_with c.args.kept.stats (records_below r d)) end

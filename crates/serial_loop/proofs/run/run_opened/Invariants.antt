@@ -3,6 +3,7 @@ use Rattle.sim_io.specs.Sink.{Got}
 use Rattle.tick_law.specs.SerialLoop.{records_below, edges_below, end_below}
 use Rattle.tick_law.specs.PlanView.{system_from}
 use Rattle.trace_out.specs.Lines.{lines_of}
+use Rattle.run_gear.specs.Counted.{counted_with}
 use Rattle.run_gear.specs.IsGear.{IsGear}
 use Rattle.run_gear.specs.PlanNames.{names_of}
 use Rattle.serial_loop.specs.IsAt.{IsAt}
@@ -21,7 +22,8 @@ invariant-loop-t g l =
       within : l.t ≤ l.last + 1;
       end : l.end ≡ end_below r l.t;
       steps : l.steps ≡ l.fn.steps + edges_below r l.t;
-      lines : Got (g.K.Sink.told l.fn.sink) (g.K.Sink.told l.sink) (lines_of (names_of plan) l.all (records_below r l.t));
+      lines : Got (g.K.Sink.told l.fn.sink) (g.K.Sink.told l.sink) (lines_of (names_of plan) l.fn.kept.all (records_below r l.t));
+      counted : l.stats ≡ counted_with l.fn.kept.stats (records_below r l.t);
       falls : g.K.Sink.faults l.fn.sink ≤ g.K.Sink.faults l.sink;
     }
 

@@ -1,6 +1,5 @@
-use Rattle.std.proofs.Common.{rules, ◌≡◌, ◌<◌, ◌+◌, refl, Some, None, codes, drop, suc, length, IsTrue, ap, ◌∙◌, subst, sym, arith}
+use Rattle.std.proofs.Common.{rules, ◌≡◌, ◌<◌, ◌+◌, refl, Some, None, codes, drop, length, IsTrue, subst, arith}
 use Rattle.std.specs.Prelude.{slice_get, false, IfOk, IfErr}
-use Rattle.std.specs.Fmt.{decimal}
 use Rattle.top_run.specs.declared.command.Detail.{Detail}
 use Rattle.top_run.specs.Words.{spelled, detail_word, has_detail, HasOptions, IsRefusedFrom, IsUsage, AreSettings}
 use Rattle.top_run.proofs.WordRefusals.{usage_map, ok_map, err_map, length-spelled}

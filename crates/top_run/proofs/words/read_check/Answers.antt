@@ -1,4 +1,4 @@
-use Rattle.std.proofs.Common.{rules, ◌≡◌, ◌<◌, length, arith}
+use Rattle.std.proofs.Common.{rules, arith}
 use Rattle.top_run.specs.Words.{spelled, IsOneFile, IsRefusedFrom, IsUsage}
 use Rattle.top_run.proofs.WordRefusals.{length-spelled, usage_map}
 use Rattle.top_run.proofs.CommandRefusals.{refused_end, no_file, behind_file}

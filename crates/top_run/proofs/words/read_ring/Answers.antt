@@ -1,4 +1,4 @@
-use Rattle.std.proofs.Common.{rules, ◌≡◌, ◌<◌, length, arith}
+use Rattle.std.proofs.Common.{rules, arith}
 use Rattle.top_run.specs.Words.{spelled, IsRing, IsRefusedFrom, IsUsage}
 use Rattle.top_run.proofs.WordRefusals.{length-spelled, usage_map}
 use Rattle.top_run.proofs.CommandRefusals.{refused_end, no_relays, no_time, behind_relays, behind_time}

@@ -1,5 +1,5 @@
-use Rattle.std.proofs.Common.{rules, ◌≡◌, drop}
-use Rattle.top_run.specs.Words.{spelled, IsFileAndOptions, IsRefusedFrom, IsUsage, AreFileAndOptions}
+use Rattle.std.proofs.Common.{rules, drop}
+use Rattle.top_run.specs.Words.{spelled, IsFileAndOptions, IsRefusedFrom, IsUsage}
 use Rattle.top_run.proofs.WordRefusals.{usage_map, drop_at}
 use Rattle.top_run.proofs.CommandRefusals.{no_run_file, behind_run_file}
 use Rattle.top_run.proofs.words.read_run.Goals as goal
