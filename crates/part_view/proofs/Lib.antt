@@ -1,0 +1,4 @@
+pub mod EntryLaws
+pub mod FieldLaws
+pub mod FloatLaws
+pub mod TextLaws

@@ -1,0 +1,68 @@
+ghost use Rattle.std.specs.Prelude.{◌≡◌, IfOk, string_bytes};
+ghost use Rattle.serde_json.specs.View.{view};
+ghost use Rattle.trace_out.specs.Lines.{cause_text};
+ghost use Rattle.part_view.specs.Fields.{phase_word, shown_data};
+
+use port_msg::Cause;
+use rv_core::CorePhase;
+use serde_json::Value;
+use sim_base::OutOfMemory;
+use std::alloc::Global;
+
+/// What a field of a part shows.
+#[derive(Clone, Copy, Debug, Default, PartialEq, Eq)]
+pub enum Shown {
+    #[default]
+    Nothing,
+    Number(u64),
+    /// Why a core halted.
+    Cause(Cause),
+    /// What a core does next.
+    Phase(CorePhase),
+}
+
+fn phase_word(phase: CorePhase) -> &'static str
+    ensures { result.now ≡ phase_word phase }
+{
+    match phase {
+        CorePhase::Fetch => "fetch",
+        CorePhase::WaitInst => "wait-inst",
+        CorePhase::Mem => "mem",
+        CorePhase::WaitData => "wait-data",
+        CorePhase::Flush => "flush",
+        CorePhase::WaitFlush => "wait-flush",
+        CorePhase::Halted => "halted",
+    }
+}
+
+fn cause_text(alloc: Global, cause: Cause) -> Result<String, OutOfMemory>
+    ensures { IfOk result (λ text. string_bytes text ≡ cause_text cause) }
+{
+    let word = match cause {
+        Cause::Exit(code) => return Ok(format!(in alloc; "exit {code}")?),
+        Cause::Illegal => "illegal",
+        Cause::BadCall => "bad-call",
+        Cause::Break => "break",
+        Cause::MisalignedJump => "misaligned-jump",
+        Cause::MisalignedLoad => "misaligned-load",
+        Cause::MisalignedStore => "misaligned-store",
+        Cause::UnmappedFetch => "unmapped-fetch",
+        Cause::UnmappedLoad => "unmapped-load",
+        Cause::UnmappedStore => "unmapped-store",
+    };
+    Ok(String::from_str(alloc, word)?)
+}
+
+impl Shown {
+    /// Its JSON: `null`, a number, or a text.
+    pub fn to_value(self, alloc: Global) -> Result<Value, OutOfMemory>
+        ensures { IfOk result (λ v. view v ≡ shown_data self) }
+    {
+        match self {
+            Shown::Nothing => Ok(Value::Null),
+            Shown::Number(n) => Ok(Value::from(n)),
+            Shown::Cause(cause) => Ok(Value::String(cause_text(alloc, cause)?)),
+            Shown::Phase(phase) => Ok(Value::try_from_str(alloc, phase_word(phase))?),
+        }
+    }
+}
