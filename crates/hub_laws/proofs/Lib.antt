@@ -1,3 +1,4 @@
 pub mod PassIsOver
 pub mod PassBegins
 pub mod SideBack
+pub mod Worked

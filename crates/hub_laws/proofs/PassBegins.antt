@@ -1,17 +1,15 @@
 -- A pass that begins: nobody is back yet, and who is due has an edge.
 use Rattle.std.proofs.Common.{◌≡◌, ◌≢◌, ℕ, zero, suc, ◌+◌, ◌-◌, ◌*◌, ◌/◌, ◌%◌, ◌<◌, ◌≤◌, ◌⊎◌, inl, inr, List, length, sym, ◌∙◌, ap, subst, arith, refl, add-one}
 use Rattle.std.specs.Prelude.{Option, Some, None, Bool, true, false, ◌==◌, ◌||◌, slice_get}
-use Rattle.std.proofs.lemmas.Bool.Decides.{nat_tests}
 use Rattle.std.proofs.Math.Nat.{div-add-mod', suc-mul, mul-le-mul_right}
 use Rattle.sim_base.specs.Edge.{edge_from, edge_past}
 use Rattle.bit_set.specs.Bits.{is_in}
-use Rattle.port_msg.specs.PortView.{PortView}
-use Rattle.tick_law.specs.Wires.{Wires, owner_of}
-use Rattle.tick_law.specs.Pass.{Side, has_edge, pass, first}
+use Rattle.tick_law.specs.Wires.{Wires}
+use Rattle.tick_law.specs.Pass.{Side, first}
 use Rattle.tick_law.specs.SerialLoop.{pick}
 use Rattle.tick_law.specs.NextTime.{any_from, next_at, woken, times, due_is}
 use Rattle.tick_law.specs.Course.{Course, after, due_at, due_after, next_in, flag, faced, period, ready, ticked, timer}
-use Rattle.model_laws.specs.NextTable.{IsTable, due_at_time, next_at_place}
+use Rattle.model_laws.specs.NextTable.{IsTable, due_at_time}
 use Rattle.model_laws.specs.Changed.{changed}
 use Rattle.model_laws.proofs.OneMoreActor.{is_same, is_other}
 use Rattle.model_laws.proofs.ActorByActor.{pass_none}

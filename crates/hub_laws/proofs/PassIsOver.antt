@@ -1,13 +1,12 @@
 -- A pass of which nobody waits and nobody is out is the loop's pass.
-use Rattle.std.proofs.Common.{◌≡◌, ℕ, ◌+◌, ◌<◌, ◌≤◌, List, length, sym, ◌∙◌, ap, subst, arith, refl}
+use Rattle.std.proofs.Common.{◌≡◌, ℕ, ◌+◌, ◌<◌, ◌≤◌, List, length, sym, ◌∙◌, ap, arith, refl}
 use Rattle.std.specs.Prelude.{Option, Some, Bool, true, false, ◌||◌, slice_get}
 use Rattle.bit_set.specs.Bits.{is_in}
-use Rattle.tick_law.specs.Wires.{owner_of}
-use Rattle.tick_law.specs.Pass.{Side, has_edge}
+use Rattle.tick_law.specs.Pass.{has_edge}
 use Rattle.tick_law.specs.SerialLoop.{begun, pick}
 use Rattle.tick_law.specs.Outcomes.{records_to, stirs, stirs_to}
 use Rattle.tick_law.specs.Course.{Course, after, ready, ticked}
-use Rattle.model_laws.specs.NextTable.{IsTable, due_at_time, next_at_place}
+use Rattle.model_laws.specs.NextTable.{IsTable, due_at_time}
 use Rattle.model_laws.proofs.SideCourse.{IsCourse}
 use Rattle.model_laws.proofs.StepsFromStart.{begun_all, after_all}
 use Rattle.model_laws.proofs.SleepersChangeNothing.{pass_sleeping}

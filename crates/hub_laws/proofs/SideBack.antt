@@ -1,7 +1,7 @@
 -- One actor is back from its step: its side, and the next times of both sides.
-use Rattle.std.proofs.Common.{◌≡◌, ◌≢◌, ℕ, zero, suc, ◌+◌, ◌*◌, ◌/◌, ◌%◌, ◌<◌, ◌≤◌, ◌⊎◌, inl, inr, List, [], ◌∷◌, length, get_or, set, take, map, sym, ◌∙◌, ap, subst, arith, refl, Global}
-use Rattle.std.specs.Prelude.{Option, Some, None, Bool, true, false, ◌==◌, ◌&&◌, slice_get, Box, nat_le}
-use Rattle.std.proofs.lemmas.List.{take_all, same_lists, length-set, length-map, get_or_default}
+use Rattle.std.proofs.Common.{◌≡◌, ℕ, zero, suc, ◌+◌, ◌%◌, ◌<◌, ◌≤◌, ◌⊎◌, inl, inr, List, [], ◌∷◌, length, get_or, set, take, map, sym, ◌∙◌, ap, subst, arith, refl, Global}
+use Rattle.std.specs.Prelude.{Option, Some, None, Bool, true, false, ◌==◌, ◌&&◌, slice_get, Box}
+use Rattle.std.proofs.lemmas.List.{take_all, same_lists, get_or_default}
 use Rattle.sim_base.specs.declared.time.Time.{Time}
 use Rattle.event_queue.specs.NextTimes.{time_of}
 use Rattle.bit_set.specs.Bits.{is_in}
@@ -10,15 +10,15 @@ use Rattle.port_row.specs.declared.face.Face.{Face}
 use Rattle.port_row.specs.Row.{face_at, face_of, no_face}
 use Rattle.port_rows.specs.Rows.{RowsView, other_face}
 use Rattle.port_rows.proofs.RowsLaws.{has_place}
-use Rattle.tick_law.specs.Wires.{Wires, own_of, owner_of, Has, Wired}
-use Rattle.tick_law.specs.Pass.{Side, port_at, place, map_index, port_after, pass, step_of}
+use Rattle.tick_law.specs.Wires.{own_of, owner_of, Has}
+use Rattle.tick_law.specs.Pass.{Side, port_at, place, port_after, step_of}
 use Rattle.tick_law.specs.Face.{face_differs}
 use Rattle.tick_law.specs.SerialLoop.{begun}
 use Rattle.tick_law.specs.NextTime.{woken}
 use Rattle.tick_law.specs.Outcomes.{flag_of}
-use Rattle.tick_law.specs.Course.{Course, after, any_of, flag, period, ready, ticked, timer}
+use Rattle.tick_law.specs.Course.{Course, after, any_of, flag, period, ticked}
 use Rattle.model_laws.specs.Pass.{scatter}
-use Rattle.model_laws.specs.NextTable.{IsTable, next_at_place}
+use Rattle.model_laws.specs.NextTable.{next_at_place}
 use Rattle.model_laws.specs.SideTimes.{half_of, number_of, timed}
 use Rattle.model_laws.specs.Changed.{changed_of}
 use Rattle.model_laws.proofs.OneMoreActor.{is_same, length-map_index, get-map_index_zero, length-scatter, scatter_at, scatter_other, place_below}

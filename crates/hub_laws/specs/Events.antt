@@ -1,10 +1,10 @@
 -- The machine of events: what may happen, where it may happen, and what it changes.
-use Rattle.std.specs.Prelude.{◌≡◌, ℕ, ◌+◌, ◌≤◌, ◌<◌, ◌^◌, ◌-◌, ◌==◌, ◌&&◌, ◌||◌, ◌⊎◌, min, nat_le, nat_lt, not, List, [], ◌∷◌, length, map, Option, Some, None, Bool, true, false, slice_set}
+use Rattle.std.specs.Prelude.{◌≡◌, ℕ, ◌+◌, ◌≤◌, ◌<◌, ◌^◌, ◌-◌, ◌==◌, ◌&&◌, ◌||◌, ◌⊎◌, min, nat_le, not, List, [], ◌∷◌, length, map, Option, Some, None, Bool, true, false, slice_set}
 use Rattle.std.proofs.Common.{zero, suc}
 use Rattle.bit_set.specs.Bits.{is_in}
 use Rattle.sim_base.specs.Edge.{edge_from, edge_after}
 use Rattle.tick_law.specs.Pass.{map_index}
-use Rattle.tick_law.specs.Wires.{Wires, own_of}
+use Rattle.tick_law.specs.Wires.{own_of}
 use Rattle.tick_law.specs.NextTime.{woken, due_is}
 use Rattle.tick_law.specs.SerialLoop.{System, pick}
 use Rattle.tick_law.specs.Course.{Course, any_of, part_course, link_course, period, flag, timer, after}

@@ -1,0 +1,14 @@
+pub mod FloorGives
+pub mod SideOut
+pub mod SideSteps
+pub mod OutLaws
+pub mod SideIn
+pub mod Events
+pub mod BackLaws
+pub mod SideOpens
+pub mod AskedInTurn
+pub mod FloorOpens
+pub mod OpenLaws
+pub mod Closes
+pub mod CloseLaws
+pub mod LeastLaws

@@ -1,0 +1,4 @@
+pub mod Passing
+pub mod Floor
+pub mod Forgot
+pub mod Begins

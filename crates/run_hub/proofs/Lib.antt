@@ -1,0 +1,3 @@
+pub mod SideLines
+pub mod TimeLines
+pub mod TurnLaws
