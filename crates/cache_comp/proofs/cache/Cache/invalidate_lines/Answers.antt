@@ -1,0 +1,5 @@
+use Rattle.cache_comp.specs.CacheLaws.{held_with_lines}
+use Rattle.cache_comp.proofs.cache.Cache.invalidate_lines.Goals as goal
+
+pub invariant_of-self : goal.invariant_of-self
+invariant_of-self c = held_with_lines _ c.invalidate_all.new.self _ _ c.self.invariant c.invalidate_all.ensures.sizes
