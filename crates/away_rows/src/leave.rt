@@ -7,27 +7,8 @@ ghost use Rattle.away_rows.specs.declared.body.Body.{Body};
 ghost use Rattle.away_rows.specs.Bodies.{body_at, HasRow, SeatSet, with_own_ports, with_own_row};
 
 use crate::body::Body;
+use crate::seat::{rise, sit};
 use port_rows::PortRows;
-
-/// Takes the actor out of its seat.
-fn rise<S: Drop>(seats: &mut Vec<Option<Box<Body<S>>>>, no: u32) -> Box<Body<S>>
-    requires here { (b : Body S) × (body_at seats.old.items no ≡ Some b) }
-    ensures body { body_at seats.old.items no ≡ Some result.value }
-    ensures seats { SeatSet seats.old.items seats.new.items no None }
-{
-    let Some(body) = seats[no as usize].take() else {
-        unreachable!()
-    };
-    body
-}
-
-/// Puts an actor into its seat.
-fn sit<S: Drop>(seats: &mut Vec<Option<Box<Body<S>>>>, no: u32, body: Box<Body<S>>)
-    requires here { no < length seats.old.items }
-    ensures seats { SeatSet seats.old.items seats.new.items no (Some body.value) }
-{
-    seats[no as usize] = Some(body);
-}
 
 /// Part `no` leaves with its ports. The ports of its row stand in their places meanwhile.
 pub fn part_leaves<P: Drop>(
@@ -46,7 +27,7 @@ pub fn part_leaves<P: Drop>(
         → rows.new ≡ with_own rows.old own.now b.row.ports }
     ensures seats { SeatSet seats.old.items seats.new.items no None }
 {
-    let mut body = rise(seats, no);
+    let mut body = rise(seats, no as usize);
     rows.lend(own, &mut body.row);
     body
 }
@@ -69,7 +50,7 @@ pub fn part_returns<P: Drop>(
         (Some (with_own_ports body.value (gather rows.old.ports own.now))) }
 {
     rows.lend(own, &mut body.row);
-    sit(seats, no, body);
+    sit(seats, no as usize, body);
 }
 
 /// Link `no` leaves with its row. Its other row stands in that place meanwhile.
@@ -87,7 +68,7 @@ pub fn link_leaves<N: Drop>(
         → rows.new ≡ with_row rows.old no b.row }
     ensures seats { SeatSet seats.old.items seats.new.items no None }
 {
-    let mut body = rise(seats, no);
+    let mut body = rise(seats, no as usize);
     rows.swap_row(no, &mut body.row);
     body
 }
@@ -109,5 +90,5 @@ pub fn link_returns<N: Drop>(
         (Some (with_own_row body.value (row_of_link rows.old no))) }
 {
     rows.swap_row(no, &mut body.row);
-    sit(seats, no, body);
+    sit(seats, no as usize, body);
 }

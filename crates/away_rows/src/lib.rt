@@ -4,7 +4,9 @@
 mod body;
 mod leave;
 mod marks;
+mod seat;
 
 pub use body::Body;
 pub use leave::{link_leaves, link_returns, part_leaves, part_returns};
 pub use marks::Marks;
+pub use seat::{rise, sit};

@@ -33,7 +33,8 @@ pub fn part_back<P: Actor + Drop, N: Actor + Drop, C: Charter<P, N>, M: Ledger>(
     ensures floor { PartsOf (system_from P.machine N.machine C.plan C.start)
         P.valid N.valid C.plan.until floor.new }
     ensures event { hub_state floor.new
-        ≡ part_finished (system_from P.machine N.machine C.plan C.start) (hub_state floor.old) no }
+        ≡ part_finished (system_from P.machine N.machine C.plan C.start)
+        (hub_state floor.old) no }
 {
     let t = floor.at;
     floor
@@ -71,7 +72,8 @@ pub fn link_back<P: Actor + Drop, N: Actor + Drop, C: Charter<P, N>, M: Ledger>(
     ensures floor { LinksOf (system_from P.machine N.machine C.plan C.start)
         P.valid N.valid C.plan.until floor.new }
     ensures event { hub_state floor.new
-        ≡ link_finished (system_from P.machine N.machine C.plan C.start) (hub_state floor.old) no }
+        ≡ link_finished (system_from P.machine N.machine C.plan C.start)
+        (hub_state floor.old) no }
 {
     let t = floor.at;
     floor

@@ -1,5 +1,5 @@
 //! A time is over: nobody has a mark or a record of it any more.
-ghost use Rattle.std.specs.Prelude.{◌≡◌, ℕ, ◌<◌, length, Some, None, true};
+ghost use Rattle.std.specs.Prelude.{◌≡◌, ℕ, ◌<◌, length, Some, true};
 ghost use Rattle.bit_set.specs.Bits.{is_in};
 ghost use Rattle.tick_law.specs.PlanView.{system_from};
 ghost use Rattle.tick_law.specs.SerialLoop.{pick};
@@ -11,30 +11,10 @@ ghost use Rattle.hub_floor.specs.Forgot.{forgotten, Forgot};
 ghost use Rattle.hub_floor.specs.Floor.{hub_state, RestsOf, LinksOf};
 
 use crate::floor::Floor;
-use away_rows::{Body, Marks};
+use away_rows::{Body, Marks, rise, sit};
 use bit_set::BitSet;
 use hub_laws::Stage;
 use tick_law::{Actor, Charter};
-
-/// Takes the actor out of its seat.
-fn rise<S: Drop>(seats: &mut Vec<Option<Box<Body<S>>>>, no: usize) -> Box<Body<S>>
-    requires { (b : Body S) × (body_at seats.old.items no ≡ Some b) }
-    ensures body { body_at seats.old.items no ≡ Some result.value }
-    ensures seats { SeatSet seats.old.items seats.new.items no None }
-{
-    let Some(body) = seats[no].take() else {
-        unreachable!()
-    };
-    body
-}
-
-/// Puts an actor into its seat.
-fn sit<S: Drop>(seats: &mut Vec<Option<Box<Body<S>>>>, no: usize, body: Box<Body<S>>)
-    requires { no < length seats.old.items }
-    ensures { SeatSet seats.old.items seats.new.items no (Some body.value) }
-{
-    seats[no] = Some(body);
-}
 
 /// An actor without the records that it had.
 fn without_records<S: Drop>(mut body: Box<Body<S>>) -> Box<Body<S>>
