@@ -150,9 +150,13 @@ begin_of l place m = place * l.line + m.addr % l.line
 abbrev pub read : LinesState → ℕ → Msg → List ℕ
 read l place m = take m.len (drop (begin_of l place m) l.bytes)
 
+-- the bytes after the message's bytes were put into the line
+abbrev pub written : LinesState → ℕ → Msg → List ℕ
+written l place m = put_over l.bytes (begin_of l place m) (take m.len m.bytes)
+
 -- the bytes after an access: a write puts its bytes into the line
 abbrev pub stored : LinesState → ℕ → Msg → List ℕ
-stored l place m = cond (is_write m.kind) (put_over l.bytes (begin_of l place m) (take m.len m.bytes)) l.bytes
+stored l place m = cond (is_write m.kind) (written l place m) l.bytes
 
 -- the tag of a line that is used: a write marks it dirty, and it gets the greatest use number
 abbrev pub used_tag : LinesState → ℕ → Bool → LineTag

@@ -1,6 +1,6 @@
 ghost use Rattle.std.specs.Prelude.{◌≡◌, ◌*◌, ◌+◌, ◌<◌, ◌≤◌, length, map, take, position, IsTrue, IfOk, IfSome};
 ghost use Rattle.port_msg.specs.Kinds.{is_write};
-ghost use Rattle.cache_comp.specs.Lines.{unused_lines, places, put_over, begin_of, invalid_tag, line_address, ways_of, hit_place, victim_way, victim_place, holds, is_vacant, is_least, least_use, first_place, first_dirty, tag_at, line_bytes, filled, accepts, LiesInLine, read, note_use, access, SameSizes, invalidate, invalidate_all, reserve, clean, put_line, byte_at};
+ghost use Rattle.cache_comp.specs.Lines.{unused_lines, places, put_over, written, begin_of, invalid_tag, line_address, ways_of, hit_place, victim_way, victim_place, holds, is_vacant, is_least, least_use, first_place, first_dirty, tag_at, line_bytes, filled, accepts, LiesInLine, read, note_use, access, SameSizes, invalidate, invalidate_all, reserve, clean, put_line, byte_at};
 
 use crate::line_tag::LineTag;
 use port_msg::{DATA_BYTES, Msg, MsgKind};
@@ -267,7 +267,7 @@ impl Lines {
     fn store(&mut self, place: usize, request: &Msg)
         requires within { place < places self.old }
         requires lies { LiesInLine self.old.line request.now }
-        ensures { self.new ≡ record self.old { bytes = put_over self.old.bytes (begin_of self.old place request.now) (take request.now.len request.now.bytes) } }
+        ensures { self.new ≡ record self.old { bytes = written self.old place request.now } }
     {
         let first = self.begin_of(place, request);
         put_over(

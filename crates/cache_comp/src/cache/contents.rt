@@ -71,7 +71,8 @@ impl Cache {
     /// The line of this address is put at a place, with these bytes.
     pub(crate) fn put_line(&mut self, place: usize, addr: u32, bytes: &[u8; DATA_BYTES])
         requires { place < places self.old.lines }
-        ensures { self.new ≡ record self.old { lines = put_line place addr bytes.now self.old.lines } }
+        ensures { self.new
+            ≡ record self.old { lines = put_line place addr bytes.now self.old.lines } }
     {
         self.lines.put_line(place, addr, bytes);
     }

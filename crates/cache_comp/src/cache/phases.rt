@@ -25,10 +25,14 @@ impl Cache {
         requires room { length recs.old.items < recs.old.room }
         requires stage { IsStage self.old.lines.line (places self.old.lines) (length self.old.caches) stage }
 
-        ensures state { self.new ≡ (send msg (requested stage self.old) self.old (second_of ports.old)).state }
-        ensures port { ports.new ≡ with_port ports.old 1 (send msg (requested stage self.old) self.old (second_of ports.old)).port }
-        ensures records { recs.new ≡ appended_all recs.old (send msg (requested stage self.old) self.old (second_of ports.old)).records }
-        ensures flag { result ≡ (send msg (requested stage self.old) self.old (second_of ports.old)).flag }
+        ensures state { self.new
+            ≡ (send msg (requested stage self.old) self.old (second_of ports.old)).state }
+        ensures port { ports.new ≡ with_port ports.old 1
+            (send msg (requested stage self.old) self.old (second_of ports.old)).port }
+        ensures records { recs.new ≡ appended_all recs.old
+            (send msg (requested stage self.old) self.old (second_of ports.old)).records }
+        ensures flag { result
+            ≡ (send msg (requested stage self.old) self.old (second_of ports.old)).flag }
     {
         if ports.send(BOTTOM, msg).is_err() {
             return false;
@@ -102,7 +106,8 @@ impl Cache {
 
         ensures state { self.new ≡ (idle self.old (first_of ports.old)).state }
         ensures port { ports.new ≡ with_port ports.old 0 (idle self.old (first_of ports.old)).port }
-        ensures records { recs.new ≡ appended_all recs.old (idle self.old (first_of ports.old)).records }
+        ensures records { recs.new ≡ appended_all recs.old
+            (idle self.old (first_of ports.old)).records }
         ensures flag { result ≡ (idle self.old (first_of ports.old)).flag }
     {
         let Some(msg) = ports.in_head(TOP) else {
@@ -129,8 +134,10 @@ impl Cache {
         requires held { IsAccess self.old.lines.line (places self.old.lines) request place }
 
         ensures state { self.new ≡ (evict request place self.old (second_of ports.old)).state }
-        ensures port { ports.new ≡ with_port ports.old 1 (evict request place self.old (second_of ports.old)).port }
-        ensures records { recs.new ≡ appended_all recs.old (evict request place self.old (second_of ports.old)).records }
+        ensures port { ports.new ≡ with_port ports.old 1
+            (evict request place self.old (second_of ports.old)).port }
+        ensures records { recs.new ≡ appended_all recs.old
+            (evict request place self.old (second_of ports.old)).records }
         ensures flag { result ≡ (evict request place self.old (second_of ports.old)).flag }
     {
         let addr = self.lines.tag(place).tag;
@@ -154,8 +161,10 @@ impl Cache {
         requires held { IsAccess self.old.lines.line (places self.old.lines) request place }
 
         ensures state { self.new ≡ (wait_evict request place self.old (second_of ports.old)).state }
-        ensures port { ports.new ≡ with_port ports.old 1 (wait_evict request place self.old (second_of ports.old)).port }
-        ensures records { recs.new ≡ appended_all recs.old (wait_evict request place self.old (second_of ports.old)).records }
+        ensures port { ports.new ≡ with_port ports.old 1
+            (wait_evict request place self.old (second_of ports.old)).port }
+        ensures records { recs.new ≡ appended_all recs.old
+            (wait_evict request place self.old (second_of ports.old)).records }
         ensures flag { result ≡ (wait_evict request place self.old (second_of ports.old)).flag }
     {
         let Some(msg) = ports.in_head(BOTTOM) else {
@@ -184,8 +193,10 @@ impl Cache {
         requires held { IsAccess self.old.lines.line (places self.old.lines) request place }
 
         ensures state { self.new ≡ (fill request place self.old (second_of ports.old)).state }
-        ensures port { ports.new ≡ with_port ports.old 1 (fill request place self.old (second_of ports.old)).port }
-        ensures records { recs.new ≡ appended_all recs.old (fill request place self.old (second_of ports.old)).records }
+        ensures port { ports.new ≡ with_port ports.old 1
+            (fill request place self.old (second_of ports.old)).port }
+        ensures records { recs.new ≡ appended_all recs.old
+            (fill request place self.old (second_of ports.old)).records }
         ensures flag { result ≡ (fill request place self.old (second_of ports.old)).flag }
     {
         let addr = self.line_of(&request);
@@ -209,8 +220,10 @@ impl Cache {
         requires held { IsAccess self.old.lines.line (places self.old.lines) request place }
 
         ensures state { self.new ≡ (wait_fill request place self.old (second_of ports.old)).state }
-        ensures port { ports.new ≡ with_port ports.old 1 (wait_fill request place self.old (second_of ports.old)).port }
-        ensures records { recs.new ≡ appended_all recs.old (wait_fill request place self.old (second_of ports.old)).records }
+        ensures port { ports.new ≡ with_port ports.old 1
+            (wait_fill request place self.old (second_of ports.old)).port }
+        ensures records { recs.new ≡ appended_all recs.old
+            (wait_fill request place self.old (second_of ports.old)).records }
         ensures flag { result ≡ (wait_fill request place self.old (second_of ports.old)).flag }
     {
         let Some(msg) = ports.in_head(BOTTOM) else {
@@ -233,8 +246,10 @@ impl Cache {
         requires room { length recs.old.items < recs.old.room }
 
         ensures state { self.new ≡ (reply answer self.old (first_of ports.old)).state }
-        ensures port { ports.new ≡ with_port ports.old 0 (reply answer self.old (first_of ports.old)).port }
-        ensures records { recs.new ≡ appended_all recs.old (reply answer self.old (first_of ports.old)).records }
+        ensures port { ports.new ≡ with_port ports.old 0
+            (reply answer self.old (first_of ports.old)).port }
+        ensures records { recs.new ≡ appended_all recs.old
+            (reply answer self.old (first_of ports.old)).records }
         ensures flag { result ≡ (reply answer self.old (first_of ports.old)).flag }
     {
         if ports.send(TOP, answer).is_err() {
@@ -252,8 +267,10 @@ impl Cache {
         requires room { length recs.old.items < recs.old.room }
 
         ensures state { self.new ≡ (flush request self.old (second_of ports.old)).state }
-        ensures port { ports.new ≡ with_port ports.old 1 (flush request self.old (second_of ports.old)).port }
-        ensures records { recs.new ≡ appended_all recs.old (flush request self.old (second_of ports.old)).records }
+        ensures port { ports.new ≡ with_port ports.old 1
+            (flush request self.old (second_of ports.old)).port }
+        ensures records { recs.new ≡ appended_all recs.old
+            (flush request self.old (second_of ports.old)).records }
         ensures flag { result ≡ (flush request self.old (second_of ports.old)).flag }
     {
         let Some(place) = self.lines.first_dirty() else {
@@ -282,8 +299,10 @@ impl Cache {
         requires room { length recs.old.items < recs.old.room }
 
         ensures state { self.new ≡ (wait_flush request self.old (second_of ports.old)).state }
-        ensures port { ports.new ≡ with_port ports.old 1 (wait_flush request self.old (second_of ports.old)).port }
-        ensures records { recs.new ≡ appended_all recs.old (wait_flush request self.old (second_of ports.old)).records }
+        ensures port { ports.new ≡ with_port ports.old 1
+            (wait_flush request self.old (second_of ports.old)).port }
+        ensures records { recs.new ≡ appended_all recs.old
+            (wait_flush request self.old (second_of ports.old)).records }
         ensures flag { result ≡ (wait_flush request self.old (second_of ports.old)).flag }
     {
         let Some(msg) = ports.in_head(BOTTOM) else {
@@ -312,8 +331,10 @@ impl Cache {
         requires within { cache ≤ length self.old.caches }
 
         ensures state { self.new ≡ (down request cache self.old (second_of ports.old)).state }
-        ensures port { ports.new ≡ with_port ports.old 1 (down request cache self.old (second_of ports.old)).port }
-        ensures records { recs.new ≡ appended_all recs.old (down request cache self.old (second_of ports.old)).records }
+        ensures port { ports.new ≡ with_port ports.old 1
+            (down request cache self.old (second_of ports.old)).port }
+        ensures records { recs.new ≡ appended_all recs.old
+            (down request cache self.old (second_of ports.old)).records }
         ensures flag { result ≡ (down request cache self.old (second_of ports.old)).flag }
     {
         let Some(to) = self.cache_at(cache) else {
@@ -338,8 +359,10 @@ impl Cache {
         requires within { cache < length self.old.caches }
 
         ensures state { self.new ≡ (wait_down request cache self.old (second_of ports.old)).state }
-        ensures port { ports.new ≡ with_port ports.old 1 (wait_down request cache self.old (second_of ports.old)).port }
-        ensures records { recs.new ≡ appended_all recs.old (wait_down request cache self.old (second_of ports.old)).records }
+        ensures port { ports.new ≡ with_port ports.old 1
+            (wait_down request cache self.old (second_of ports.old)).port }
+        ensures records { recs.new ≡ appended_all recs.old
+            (wait_down request cache self.old (second_of ports.old)).records }
         ensures flag { result ≡ (wait_down request cache self.old (second_of ports.old)).flag }
     {
         let Some(msg) = ports.in_head(BOTTOM) else {

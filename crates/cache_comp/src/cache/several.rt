@@ -59,7 +59,8 @@ impl Cache {
     /// Whether fewer misses and answers are under way than there is room for.
     fn has_place(&self) -> bool
         ensures test { result ≡ has_place self.now }
-        ensures room { IsTrue result → length self.now.table + length self.now.ready < self.now.miss_room }
+        ensures room { IsTrue result → length self.now.table + length self.now.ready
+            < self.now.miss_room }
     {
         self.table.len() + self.ready.len() < self.miss_room as usize
     }
@@ -98,7 +99,8 @@ impl Cache {
     /// The answer of this id to the write of a victim: the first miss that waits for it is to be filled. It says
     /// whether one waits.
     fn evict_answered(&mut self, id: MsgId) -> bool
-        ensures begun { evict_answered (position (waits_evict id) self.old.table) self.old ≡ some_where result self.new }
+        ensures begun { evict_answered (position (waits_evict id) self.old.table) self.old
+            ≡ some_where result self.new }
         ensures kept { OnFalse result (self.new ≡ self.old) }
     {
         let Some(k) = evict_of(&self.table, id) else {
@@ -112,7 +114,8 @@ impl Cache {
 
     /// The answer of this id has the line of the first miss that waits for it. It says whether one waits.
     fn fill_answered(&mut self, msg: &Msg) -> bool
-        ensures begun { fill_answered (position (waits_fill msg.now.id) self.old.table) msg.now self.old ≡ some_where result self.new }
+        ensures begun { fill_answered (position (waits_fill msg.now.id) self.old.table) msg.now self.old
+            ≡ some_where result self.new }
         ensures kept { OnFalse result (self.new ≡ self.old) }
     {
         let Some(k) = fill_of(&self.table, msg.id) else {
@@ -201,8 +204,10 @@ impl Cache {
         requires room { length recs.old.items < recs.old.room }
 
         ensures state { self.new ≡ (send_ready self.old (first_of ports.old)).state }
-        ensures port { ports.new ≡ with_port ports.old 0 (send_ready self.old (first_of ports.old)).port }
-        ensures records { recs.new ≡ appended_all recs.old (send_ready self.old (first_of ports.old)).records }
+        ensures port { ports.new ≡ with_port ports.old 0
+            (send_ready self.old (first_of ports.old)).port }
+        ensures records { recs.new ≡ appended_all recs.old
+            (send_ready self.old (first_of ports.old)).records }
         ensures flag { result ≡ (send_ready self.old (first_of ports.old)).flag }
     {
         let Some(answer) = self.ready.front().copied() else {
@@ -222,8 +227,10 @@ impl Cache {
         requires room { length recs.old.items < recs.old.room }
 
         ensures state { self.new ≡ (take_answer self.old (second_of ports.old)).state }
-        ensures port { ports.new ≡ with_port ports.old 1 (take_answer self.old (second_of ports.old)).port }
-        ensures records { recs.new ≡ appended_all recs.old (take_answer self.old (second_of ports.old)).records }
+        ensures port { ports.new ≡ with_port ports.old 1
+            (take_answer self.old (second_of ports.old)).port }
+        ensures records { recs.new ≡ appended_all recs.old
+            (take_answer self.old (second_of ports.old)).records }
         ensures flag { result ≡ (take_answer self.old (second_of ports.old)).flag }
     {
         let Some(msg) = ports.in_head(BOTTOM) else {
@@ -251,10 +258,14 @@ impl Cache {
         requires within { k < length self.old.table }
         requires held { IsMiss self.old.lines.line (places self.old.lines) miss }
 
-        ensures state { self.new ≡ (send msg (asked k miss self.old) self.old (second_of ports.old)).state }
-        ensures port { ports.new ≡ with_port ports.old 1 (send msg (asked k miss self.old) self.old (second_of ports.old)).port }
-        ensures records { recs.new ≡ appended_all recs.old (send msg (asked k miss self.old) self.old (second_of ports.old)).records }
-        ensures flag { result ≡ (send msg (asked k miss self.old) self.old (second_of ports.old)).flag }
+        ensures state { self.new
+            ≡ (send msg (asked k miss self.old) self.old (second_of ports.old)).state }
+        ensures port { ports.new ≡ with_port ports.old 1
+            (send msg (asked k miss self.old) self.old (second_of ports.old)).port }
+        ensures records { recs.new ≡ appended_all recs.old
+            (send msg (asked k miss self.old) self.old (second_of ports.old)).records }
+        ensures flag { result
+            ≡ (send msg (asked k miss self.old) self.old (second_of ports.old)).flag }
     {
         if ports.send(BOTTOM, msg).is_err() {
             return false;
@@ -271,8 +282,10 @@ impl Cache {
         requires room { length recs.old.items < recs.old.room }
 
         ensures state { self.new ≡ (send_miss self.old (second_of ports.old)).state }
-        ensures port { ports.new ≡ with_port ports.old 1 (send_miss self.old (second_of ports.old)).port }
-        ensures records { recs.new ≡ appended_all recs.old (send_miss self.old (second_of ports.old)).records }
+        ensures port { ports.new ≡ with_port ports.old 1
+            (send_miss self.old (second_of ports.old)).port }
+        ensures records { recs.new ≡ appended_all recs.old
+            (send_miss self.old (second_of ports.old)).records }
         ensures flag { result ≡ (send_miss self.old (second_of ports.old)).flag }
     {
         let Some(k) = to_send(&self.table) else {
@@ -308,8 +321,10 @@ impl Cache {
         requires room { length recs.old.items < recs.old.room }
 
         ensures state { self.new ≡ (take_request self.old (first_of ports.old)).state }
-        ensures port { ports.new ≡ with_port ports.old 0 (take_request self.old (first_of ports.old)).port }
-        ensures records { recs.new ≡ appended_all recs.old (take_request self.old (first_of ports.old)).records }
+        ensures port { ports.new ≡ with_port ports.old 0
+            (take_request self.old (first_of ports.old)).port }
+        ensures records { recs.new ≡ appended_all recs.old
+            (take_request self.old (first_of ports.old)).records }
         ensures flag { result ≡ (take_request self.old (first_of ports.old)).flag }
     {
         let Some(msg) = ports.in_head(TOP) else {
@@ -329,8 +344,10 @@ impl Cache {
         requires room { length recs.old.items < recs.old.room }
 
         ensures state { self.new ≡ (take_flush self.old (first_of ports.old)).state }
-        ensures port { ports.new ≡ with_port ports.old 0 (take_flush self.old (first_of ports.old)).port }
-        ensures records { recs.new ≡ appended_all recs.old (take_flush self.old (first_of ports.old)).records }
+        ensures port { ports.new ≡ with_port ports.old 0
+            (take_flush self.old (first_of ports.old)).port }
+        ensures records { recs.new ≡ appended_all recs.old
+            (take_flush self.old (first_of ports.old)).records }
         ensures flag { result ≡ (take_flush self.old (first_of ports.old)).flag }
     {
         let Some(msg) = ports.in_head(TOP) else {
@@ -352,8 +369,10 @@ impl Cache {
         requires room { length recs.old.items + 2 ≤ recs.old.room }
 
         ensures state { self.new ≡ (serve_bottom self.old (second_of ports.old)).state }
-        ensures port { ports.new ≡ with_port ports.old 1 (serve_bottom self.old (second_of ports.old)).port }
-        ensures records { recs.new ≡ appended_all recs.old (serve_bottom self.old (second_of ports.old)).records }
+        ensures port { ports.new ≡ with_port ports.old 1
+            (serve_bottom self.old (second_of ports.old)).port }
+        ensures records { recs.new ≡ appended_all recs.old
+            (serve_bottom self.old (second_of ports.old)).records }
         ensures flag { result ≡ (serve_bottom self.old (second_of ports.old)).flag }
     {
         let took = self.take_answer(ports, recs);
@@ -368,8 +387,10 @@ impl Cache {
         requires room { length recs.old.items + 2 ≤ recs.old.room }
 
         ensures state { self.new ≡ (serve_top self.old (first_of ports.old)).state }
-        ensures port { ports.new ≡ with_port ports.old 0 (serve_top self.old (first_of ports.old)).port }
-        ensures records { recs.new ≡ appended_all recs.old (serve_top self.old (first_of ports.old)).records }
+        ensures port { ports.new ≡ with_port ports.old 0
+            (serve_top self.old (first_of ports.old)).port }
+        ensures records { recs.new ≡ appended_all recs.old
+            (serve_top self.old (first_of ports.old)).records }
         ensures flag { result ≡ (serve_top self.old (first_of ports.old)).flag }
     {
         let took = self.take_request(ports, recs);

@@ -15,7 +15,8 @@ const SIZE: usize = 512;
 
 /// The addresses of the memory.
 fn memory_range(alloc: Global) -> Result<Range, OutOfMemory>
-    ensures { IfOk result (λ range. range ≡ record { base = 0; size = 512; granule = 64; to = MEMORY ∷ [] }) }
+    ensures { IfOk result (λ range. range ≡ record
+        { base = 0; size = 512; granule = 64; to = MEMORY ∷ [] }) }
 {
     let to = Targets::of(Vec::from_slice(alloc, &[MEMORY])?);
     Ok(Range {
