@@ -1,15 +1,16 @@
 -- The lines of a side, one actor after another.
 use Rattle.std.proofs.Common.{◌≡◌, ℕ, zero, suc, ◌+◌, ◌-◌, ◌<◌, ◌≤◌, List, [], ◌∷◌, ◌++◌, length, take, drop, sym, ◌∙◌, ap, subst, arith, refl, Global, add-one}
-use Rattle.std.specs.Prelude.{Option, Some, None, Bool, true, false, Box, slice_get}
+use Rattle.std.specs.Prelude.{Option, Some, None, Bool, true, false, Box, slice_get, cond}
 use Rattle.std.proofs.Math.Seq.{take-append_seam}
 use Rattle.std.proofs.lemmas.List.{take-append-drop, append_assoc, append-nil}
 use Rattle.std.proofs.lemmas.Grind.{flat_map-append}
+use Rattle.std.proofs.lemmas.List.Sums.{sum_by-append}
 use Rattle.bit_set.specs.Bits.{is_in, NoneIn}
 use Rattle.port_msg.specs.RecView.{records_at}
 use Rattle.port_msg.specs.declared.records.Record.{Record}
 use Rattle.sim_io.specs.Sink.{Got, GotPrefix}
 use Rattle.trace_out.specs.Names.{NamesView}
-use Rattle.trace_out.specs.Lines.{text_of, lines_of}
+use Rattle.trace_out.specs.Lines.{text_of, has_line, lines_of, line_count}
 use Rattle.tick_law.specs.Wires.{own_of}
 use Rattle.tick_law.specs.SerialLoop.{pick}
 use Rattle.tick_law.specs.Outcomes.{outcome, whats_of, records_to}
@@ -50,6 +51,17 @@ prefix_first names all a b both old new is got =
     subst (λ (bytes : List ℕ). GotPrefix old new bytes) (sym (flat_map-append (text_of names all) a b) ∙ ap (lines_of names all) (sym is))
     (got_more old new (lines_of names all a) (lines_of names all b) got)
 
+-- the lines of some records and of those that follow are so many
+count_both : (all : Bool) (a b : List Record) → line_count all (a ++ b) ≡ line_count all a + line_count all b
+count_both all a b = sum_by-append (λ (r : Record). cond (has_line all r) 1 0) a b
+
+-- where some of the first records, or of those that follow, have a line there is one
+pub some_first : (all : Bool) (a b both : List Record) → both ≡ a ++ b → 0 < line_count all a → 0 < line_count all both
+some_first all a b both is some = let n : line_count all both ≡ line_count all a + line_count all b = ap (line_count all) is ∙ count_both all a b in omega (arith, n, some)
+
+pub some_last : (all : Bool) (a b both : List Record) → both ≡ a ++ b → 0 < line_count all b → 0 < line_count all both
+some_last all a b both is some = let n : line_count all both ≡ line_count all a + line_count all b = ap (line_count all) is ∙ count_both all a b in omega (arith, n, some)
+
 module _ {S : Type 0} where
   -- those of a set from one place on that nobody is in
   pub records_same : (back : List Bool) (seats : List (Option (Box (Body S) Global))) (at k : ℕ) → NoneIn back at (at + k) → side_records back seats (at + k) ≡ side_records back seats at
@@ -88,6 +100,13 @@ module _ {S : Type 0} where
       (subst (λ x. GotPrefix old new (lines_of names all x)) (sym more.1)
       (subst (λ (bytes : List ℕ). GotPrefix old new bytes) (sym (flat_map-append (text_of names all) (side_records back seats n) more.0))
       (got_more old new (lines_of names all (side_records back seats n)) (lines_of names all more.0) got)))
+
+  -- where some of the first so many have a line there is one
+  pub some_of_all : (back : List Bool) (seats : List (Option (Box (Body S) Global))) (all : Bool) (n m : ℕ) → n ≤ m → 0 < line_count all (side_records back seats n) → 0 < line_count all (side_records back seats m)
+  some_of_all back seats all n m l some =
+      let z : n + (m - n) ≡ m = omega (arith, l) in
+      let more = records_more back seats n (m - n) in
+      some_first all (side_records back seats n) more.0 (side_records back seats m) (ap (side_records back seats) (sym z) ∙ more.1) some
 
   state_there : (xs : List S) (k : ℕ) → k < length xs → (s : S) × (slice_get xs k ≡ Some s)
   state_there [] k b = absurd (omega arith)

@@ -1,8 +1,8 @@
 -- What follows where an actor is back: a pass opens, or the time is over.
-use Rattle.std.specs.Prelude.{◌≡◌, ℕ, ◌≤◌, ◌⊎◌, List, Option, Bool, true, false, is_some}
+use Rattle.std.specs.Prelude.{◌≡◌, ℕ, ◌<◌, ◌≤◌, ◌⊎◌, List, Option, Bool, true, false, is_some}
 use Rattle.sim_io.specs.Sink.{Rose, Got, GotPrefix}
 use Rattle.trace_out.specs.Names.{NamesView}
-use Rattle.trace_out.specs.Lines.{lines_of}
+use Rattle.trace_out.specs.Lines.{lines_of, line_count}
 use Rattle.tick_law.specs.SerialLoop.{System, records_at_time}
 use Rattle.hub_laws.specs.HubState.{HubState}
 use Rattle.hub_laws.specs.Events.{all_back, flipped, closed}
@@ -34,6 +34,7 @@ module _ {P N : Type 0} where
     pub event : hub_state new ≡ closed new.failed from
     pub whole : new.failed ≡ false → Got trace.told trace'.told (lines_of trace.names trace.all (records_at_time r t))
     pub fault : new.failed ≡ true → Rose trace.faults trace'.faults
+    pub some : new.failed ≡ true → 0 < line_count trace.all (records_at_time r t)
     pub part : new.failed ≡ true → GotPrefix trace.told trace'.told (lines_of trace.names trace.all (records_at_time r t))
     pub stays : TraceStays trace trace'
 

@@ -3,7 +3,7 @@ ghost use Rattle.std.specs.Prelude.{◌≡◌, ℕ, ◌<◌, ◌≤◌, ◌+◌,
 ghost use Rattle.bit_set.specs.Bits.{is_in};
 ghost use Rattle.sim_io.specs.Sink.{Rose, Got, GotPrefix};
 ghost use Rattle.trace_out.specs.Names.{actors_of};
-ghost use Rattle.trace_out.specs.Lines.{lines_of};
+ghost use Rattle.trace_out.specs.Lines.{lines_of, line_count};
 ghost use Rattle.away_rows.specs.declared.body.Body.{Body};
 ghost use Rattle.away_rows.specs.Bodies.{body_at};
 ghost use Rattle.tick_law.specs.SerialLoop.{records_at_time};
@@ -33,7 +33,7 @@ fn recs_at<S: Drop>(seats: &Vec<Option<Box<Body<S>>>>, no: usize) -> &RecList
 }
 
 /// Writes the lines of the records of those of a side that are back, in the order of their numbers. The answer says whether all
-/// were written.
+/// were written: a line fails only where there is one.
 fn write_side<S: Drop, K: Sink>(
     seats: &Vec<Option<Box<Body<S>>>>,
     back: &BitSet,
@@ -43,7 +43,8 @@ fn write_side<S: Drop, K: Sink>(
 ) -> bool
     requires here { (i : ℕ) → is_in back.now i ≡ true
         → (b : Body S) × (body_at seats.now.items i ≡ Some b) }
-    requires known { (i : ℕ) (b : Body S) → is_in back.now i ≡ true → body_at seats.now.items i ≡ Some b
+    requires known { (i : ℕ) (b : Body S) → is_in back.now i ≡ true
+        → body_at seats.now.items i ≡ Some b
         → All (λ r. r.actor.0 < actors_of names.now) b.recs.items }
 
     ensures whole { result ≡ true → Got (K.told sink.old) (K.told sink.new)
@@ -51,6 +52,8 @@ fn write_side<S: Drop, K: Sink>(
     ensures part { result ≡ false → GotPrefix (K.told sink.old) (K.told sink.new)
         (lines_of names.now all (side_records back.now seats.now.items (length back.now))) }
     ensures fault { result ≡ false → Rose (K.faults sink.old) (K.faults sink.new) }
+    ensures some { result ≡ false → 0 < line_count all
+        (side_records back.now seats.now.items (length back.now)) }
     ensures never_falls { K.faults sink.old ≤ K.faults sink.new }
     ensures telling { is_some (K.told sink.new) ≡ is_some (K.told sink.old) }
 {
@@ -66,7 +69,7 @@ fn write_side<S: Drop, K: Sink>(
 }
 
 /// Writes the lines of the records of a time all of whose actors are back, the parts' first. The answer says whether all were
-/// written.
+/// written: a line fails only where the time has one.
 pub fn write_time<P: Actor + Drop, N: Actor + Drop, C: Charter<P, N>, K: Sink + Drop>(
     floor: &Floor<P, N>,
     trace: &mut Trace<K>,
@@ -84,15 +87,18 @@ pub fn write_time<P: Actor + Drop, N: Actor + Drop, C: Charter<P, N>, K: Sink + 
         (lines_of trace.old.names trace.old.all
         (records_at_time (system_from P.machine N.machine C.plan C.start) floor.now.at)) }
     ensures fault { result ≡ false → Rose (K.faults trace.old.sink) (K.faults trace.new.sink) }
+    ensures some { result ≡ false → 0 < line_count trace.old.all
+        (records_at_time (system_from P.machine N.machine C.plan C.start) floor.now.at) }
     ensures never_falls { K.faults trace.old.sink ≤ K.faults trace.new.sink }
     ensures telling { is_some (K.told trace.new.sink) ≡ is_some (K.told trace.old.sink) }
     ensures names { trace.new.names ≡ trace.old.names }
     ensures all { trace.new.all ≡ trace.old.all }
 {
+    let all = trace.all;
     let back = &floor.part_marks.back;
-    if !write_side(&floor.parts, back, &trace.names, trace.all, &mut trace.sink) {
+    if !write_side(&floor.parts, back, &trace.names, all, &mut trace.sink) {
         return false;
     }
     let back = &floor.link_marks.back;
-    write_side(&floor.links, back, &trace.names, trace.all, &mut trace.sink)
+    write_side(&floor.links, back, &trace.names, all, &mut trace.sink)
 }

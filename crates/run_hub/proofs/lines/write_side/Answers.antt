@@ -4,10 +4,10 @@ use Rattle.port_msg.specs.RecView.{RecView}
 use Rattle.port_msg.specs.declared.records.Record.{Record}
 use Rattle.sim_io.specs.Sink.{Got, GotPrefix}
 use Rattle.trace_out.specs.Names.{actors_of}
-use Rattle.trace_out.specs.Lines.{lines_of}
+use Rattle.trace_out.specs.Lines.{lines_of, line_count}
 use Rattle.run_gear.proofs.LineLaws.{nothing_more, lines_grow, rose_later}
 use Rattle.run_hub.specs.Lines.{side_records}
-use Rattle.run_hub.proofs.SideLines.{records_over, records_one, prefix_of_all, prefix_grow}
+use Rattle.run_hub.proofs.SideLines.{records_over, records_one, prefix_of_all, prefix_grow, some_last, some_of_all}
 use Rattle.run_hub.proofs.lines.write_side.Goals as goal
 
 pub loop-no-init : goal.loop-no-init
@@ -63,6 +63,17 @@ returns-in-Err-clause-part g c = λ failed.
     prefix_of_all back seats c.args.names.now c.args.all old new (who + 1) (length back) (let w = least.within in omega (arith, w))
     (prefix_grow c.args.names.now c.args.all (side_records back seats who) b.0.recs.items (side_records back seats (who + 1)) old mid new (records_one back seats who b.0 least.here b.1)
     (subst (λ (l : List Record). Got old mid (lines_of c.args.names.now c.args.all l)) (sym (records_over back seats c.loop-no.at who least.not_below least.least)) inv.got) here)
+
+pub returns-in-Err-clause-some : goal.returns-in-Err-clause-some
+returns-in-Err-clause-some g c = λ failed.
+    let least = c.in-Some.ensures.least in
+    let who = c.in-Some.no in
+    let b = c.requires.here who least.here in
+    let back = c.args.back.now in
+    let seats = c.args.seats.now.items in
+    let here : 0 < line_count c.args.all b.0.recs.items = subst (λ (r : RecView). 0 < line_count c.args.all r.items) (c.recs_at.ensures b.0 b.1) c.in-Err.ensures.some in
+    some_of_all back seats c.args.all (who + 1) (length back) (let w = least.within in omega (arith, w))
+    (some_last c.args.all (side_records back seats who) b.0.recs.items (side_records back seats (who + 1)) (records_one back seats who b.0 least.here b.1) here)
 
 pub returns-in-Err-clause-fault : goal.returns-in-Err-clause-fault
 returns-in-Err-clause-fault g c = λ failed. rose_later (g.K.Sink.faults c.args.sink.now) (g.K.Sink.faults c.loop-no.sink) (g.K.Sink.faults c.write_records.new.sink) c.loop-no.invariant.falls c.in-Err.ensures.fault

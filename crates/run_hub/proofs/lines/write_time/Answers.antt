@@ -4,7 +4,7 @@ use Rattle.tick_law.specs.SerialLoop.{records_at_time}
 use Rattle.hub_floor.proofs.CloseLaws.{part_here, link_here}
 use Rattle.run_gear.proofs.LineLaws.{lines_grow, rose_later}
 use Rattle.run_hub.specs.Lines.{side_records}
-use Rattle.run_hub.proofs.SideLines.{prefix_first, prefix_grow}
+use Rattle.run_hub.proofs.SideLines.{prefix_first, prefix_grow, some_first, some_last}
 use Rattle.run_hub.proofs.TimeLines.{part_known, link_known, time_records}
 use Rattle.run_hub.proofs.lines.write_time.Goals as goal
 
@@ -51,6 +51,20 @@ returns-clause-part g c = λ failed.
     let t = c.args.trace.now in
     prefix_grow t.names t.all (side_records f.part_marks.back f.parts.items (length f.part_marks.back)) (side_records f.link_marks.back f.links.items (length f.link_marks.back)) (records_at_time r f.at) (g.K.Sink.told t.sink) (g.K.Sink.told c.write_side.new.sink) (g.K.Sink.told c.write_side-2.new.sink)
     (time_records r g.P.Actor.valid g.N.Actor.valid g.C.Charter.plan.until f c.requires.floor c.requires.quiet) (c.write_side.ensures.whole c.if-not-write_side.false) (c.write_side-2.ensures.part failed)
+
+pub returns-then-not-write_side-clause-some : goal.returns-then-not-write_side-clause-some
+returns-then-not-write_side-clause-some g c = λ failed.
+    let r = system_from g.P.Actor.machine g.N.Actor.machine g.C.Charter.plan g.C.Charter.start in
+    let f = c.args.floor.now in
+    some_first c.args.trace.now.all (side_records f.part_marks.back f.parts.items (length f.part_marks.back)) (side_records f.link_marks.back f.links.items (length f.link_marks.back)) (records_at_time r f.at)
+    (time_records r g.P.Actor.valid g.N.Actor.valid g.C.Charter.plan.until f c.requires.floor c.requires.quiet) (c.write_side.ensures.some c.if-not-write_side.true)
+
+pub returns-clause-some : goal.returns-clause-some
+returns-clause-some g c = λ failed.
+    let r = system_from g.P.Actor.machine g.N.Actor.machine g.C.Charter.plan g.C.Charter.start in
+    let f = c.args.floor.now in
+    some_last c.args.trace.now.all (side_records f.part_marks.back f.parts.items (length f.part_marks.back)) (side_records f.link_marks.back f.links.items (length f.link_marks.back)) (records_at_time r f.at)
+    (time_records r g.P.Actor.valid g.N.Actor.valid g.C.Charter.plan.until f c.requires.floor c.requires.quiet) (c.write_side-2.ensures.some failed)
 
 pub returns-clause-fault : goal.returns-clause-fault
 returns-clause-fault g c = λ failed. rose_later (g.K.Sink.faults c.args.trace.now.sink) (g.K.Sink.faults c.write_side.new.sink) (g.K.Sink.faults c.write_side-2.new.sink) c.write_side.ensures.never_falls (c.write_side-2.ensures.fault failed)

@@ -22,5 +22,5 @@ returns g c =
     inr (
       sym c.are_back.ensures ∙ c.if-not-are_back.false,
       time_closed r g.P.Actor.valid g.N.Actor.valid g.C.Charter.plan.until c.args.floor.now.at (hub_state c.args.floor.now) c.close_time.new.floor (trace_view g.K.Sink.told g.K.Sink.faults c.args.trace.now) (trace_view g.K.Sink.told g.K.Sink.faults c.write_time-written.new.trace) c.write_time-written.result
-          c.close_time.ensures.floor c.close_time.ensures.event w.whole w.fault w.part (record { names = w.names; all = w.all; never_falls = w.never_falls; telling = w.telling }),
+          c.close_time.ensures.floor c.close_time.ensures.event w.whole w.fault w.some w.part (record { names = w.names; all = w.all; never_falls = w.never_falls; telling = w.telling }),
     )
