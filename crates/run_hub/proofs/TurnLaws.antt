@@ -2,6 +2,7 @@
 use Rattle.std.proofs.Common.{◌≡◌, ℕ, ◌<◌, inl, inr, ◌⊎◌, sym, ◌∙◌, ap, subst, refl}
 use Rattle.std.specs.Prelude.{Bool, true, false, not}
 use Rattle.sim_io.specs.Sink.{Rose, Got, GotPrefix}
+use Rattle.task_stats.specs.Tasks.{after_records}
 use Rattle.trace_out.specs.Lines.{lines_of, line_count}
 use Rattle.tick_law.specs.SerialLoop.{System, records_at_time}
 use Rattle.hub_laws.specs.HubState.{HubState}
@@ -20,8 +21,8 @@ not_true false e = refl
 
 module _ {P N : Type 0} where
   pub time_closed : (r : System P N) (vp : P → Type 0) (vn : N → Type 0) (until t : ℕ) (from : HubState) (new : Floor P N) (trace trace' : TraceView) (written : Bool) → RestsOf r vp vn until new → hub_state new ≡ closed (not written) from →
-      (written ≡ true → Got trace.told trace'.told (lines_of trace.names trace.all (records_at_time r t))) → (written ≡ false → Rose trace.faults trace'.faults) → (written ≡ false → 0 < line_count trace.all (records_at_time r t)) → (written ≡ false → GotPrefix trace.told trace'.told (lines_of trace.names trace.all (records_at_time r t))) → TraceStays trace trace' → TimeClosed r vp vn until t from new trace trace'
-  time_closed r vp vn until t from new trace trace' written rest event whole fault some part stays =
+      (written ≡ true → Got trace.told trace'.told (lines_of trace.names trace.all (records_at_time r t))) → (written ≡ false → Rose trace.faults trace'.faults) → (written ≡ false → 0 < line_count trace.all (records_at_time r t)) → (written ≡ false → GotPrefix trace.told trace'.told (lines_of trace.names trace.all (records_at_time r t))) → trace'.stats ≡ after_records trace.stats (records_at_time r t) → TraceStays trace trace' → TimeClosed r vp vn until t from new trace trace'
+  time_closed r vp vn until t from new trace trace' written rest event whole fault some part counted stays =
       let is : new.failed ≡ not written = ap (λ (s : HubState). s.failed) event in
       record {
         rest = rest;
@@ -30,6 +31,7 @@ module _ {P N : Type 0} where
         fault = λ e. fault (not_true written (sym is ∙ e));
         some = λ e. some (not_true written (sym is ∙ e));
         part = λ e. part (not_true written (sym is ∙ e));
+        counted = counted;
         stays = stays;
       }
 

@@ -1,6 +1,7 @@
 -- What follows where an actor is back: a pass opens, or the time is over.
 use Rattle.std.specs.Prelude.{◌≡◌, ℕ, ◌<◌, ◌≤◌, ◌⊎◌, List, Option, Bool, true, false, is_some}
 use Rattle.sim_io.specs.Sink.{Rose, Got, GotPrefix}
+use Rattle.task_stats.specs.Tasks.{TasksView, after_records}
 use Rattle.trace_out.specs.Names.{NamesView}
 use Rattle.trace_out.specs.Lines.{lines_of, line_count}
 use Rattle.tick_law.specs.SerialLoop.{System, records_at_time}
@@ -10,15 +11,17 @@ use Rattle.hub_floor.specs.declared.floor.Floor.{Floor}
 use Rattle.hub_floor.specs.Floor.{hub_state, RestsOf, LinksOf}
 use Rattle.run_hub.specs.declared.trace.Trace.{Trace}
 
--- what contracts see of a trace: what its sink got, where it tells, its count of faults, the names, and which records have lines
+-- what contracts see of a trace: what its sink got, where it tells, its count of faults, the names, which records have lines, and
+-- what was counted of requests
 pub record TraceView : Type 0 where
   pub told : Option (List ℕ)
   pub faults : ℕ
   pub names : NamesView
   pub all : Bool
+  pub stats : List TasksView
 
 abbrev pub trace_view : {K : Type 0} → (K → Option (List ℕ)) → (K → ℕ) → Trace K → TraceView
-trace_view told faults t = record { told = told t.sink; faults = faults t.sink; names = t.names; all = t.all }
+trace_view told faults t = record { told = told t.sink; faults = faults t.sink; names = t.names; all = t.all; stats = t.stats }
 
 -- the trace keeps its names, its count of faults never falls, and it tells or not as before
 pub record TraceStays (old new : TraceView) : Type 0 where
@@ -28,7 +31,7 @@ pub record TraceStays (old new : TraceView) : Type 0 where
   pub telling : is_some new.told ≡ is_some old.told
 
 module _ {P N : Type 0} where
-  -- the time is over: its lines were written, or a part of them
+  -- the time is over: its requests were counted, and its lines were written, or a part of them
   pub record TimeClosed (r : System P N) (vp : P → Type 0) (vn : N → Type 0) (until : ℕ) (t : ℕ) (from : HubState) (new : Floor P N) (trace trace' : TraceView) : Type 0 where
     pub rest : RestsOf r vp vn until new
     pub event : hub_state new ≡ closed new.failed from
@@ -36,6 +39,7 @@ module _ {P N : Type 0} where
     pub fault : new.failed ≡ true → Rose trace.faults trace'.faults
     pub some : new.failed ≡ true → 0 < line_count trace.all (records_at_time r t)
     pub part : new.failed ≡ true → GotPrefix trace.told trace'.told (lines_of trace.names trace.all (records_at_time r t))
+    pub counted : trace'.stats ≡ after_records trace.stats (records_at_time r t)
     pub stays : TraceStays trace trace'
 
   -- some link is not back, and nothing has changed; or the time is over

@@ -22,7 +22,7 @@ use tick_law::{Actor, Charter};
 use trace_out::{Names, write_records};
 
 /// The records of an actor that sits in its seat.
-fn recs_at<S: Drop>(seats: &Vec<Option<Box<Body<S>>>>, no: usize) -> &RecList
+pub(crate) fn recs_at<S: Drop>(seats: &Vec<Option<Box<Body<S>>>>, no: usize) -> &RecList
     requires { (b : Body S) × (body_at seats.now.items no ≡ Some b) }
     ensures { (b : Body S) → body_at seats.now.items no ≡ Some b → result.now ≡ b.recs }
 {
@@ -93,6 +93,7 @@ pub fn write_time<P: Actor + Drop, N: Actor + Drop, C: Charter<P, N>, K: Sink + 
     ensures telling { is_some (K.told trace.new.sink) ≡ is_some (K.told trace.old.sink) }
     ensures names { trace.new.names ≡ trace.old.names }
     ensures all { trace.new.all ≡ trace.old.all }
+    ensures stats { trace.new.stats ≡ trace.old.stats }
 {
     let all = trace.all;
     let back = &floor.part_marks.back;

@@ -5,6 +5,7 @@ ghost use Rattle.trace_out.specs.Names.{actors_of};
 ghost use Rattle.hub_floor.specs.Floor.{PartsOf, LinksOf};
 ghost use Rattle.run_hub.specs.GoesOn.{AfterLinks, AfterParts, trace_view};
 
+use crate::count::count_time;
 use crate::lines::write_time;
 use crate::trace::Trace;
 use hub_floor::{Floor, are_back, close_time, open_links};
@@ -13,7 +14,7 @@ use sim_io::Sink;
 use std::sync::ledger::Ledger;
 use tick_law::{Actor, Charter};
 
-/// Where all links are back the time is over, and the lines of its records are written.
+/// Where all links are back the time is over: its requests are counted, and the lines of its records are written.
 pub fn after_link<P: Actor + Drop, N: Actor + Drop, C: Charter<P, N>, K: Sink + Drop>(
     floor: &mut Floor<P, N>,
     trace: &mut Trace<K>,
@@ -29,6 +30,7 @@ pub fn after_link<P: Actor + Drop, N: Actor + Drop, C: Charter<P, N>, K: Sink + 
     if !are_back(&floor.link_marks) {
         return;
     }
+    count_time::<P, N, C>(floor, &mut trace.stats);
     let written = write_time::<P, N, C, K>(floor, trace);
     close_time::<P, N, C>(floor, !written);
 }

@@ -1,0 +1,134 @@
+ghost use Rattle.std.specs.Prelude.{◌≡◌, ◌⊎◌, length, true, false};
+ghost use Rattle.sim_io.specs.Sink.{Rose};
+ghost use Rattle.tick_law.specs.PlanView.{system_from};
+ghost use Rattle.run_gear.specs.Written.{GotLines, GotSomeLines};
+ghost use Rattle.hub_laws.specs.Events.{is_over};
+ghost use Rattle.run_hub.specs.Claims.{Claims};
+ghost use Rattle.run_hub.specs.Finishes.{Finishes};
+
+use crate::claim::{Claim, claim_with};
+use crate::finish::{Finish, finish_with};
+use crate::home::Home;
+use crate::opening::Opening;
+use crate::task::Done;
+use crate::trace::Trace;
+use hub_floor::Floor;
+use hub_laws::Stage;
+use sim_base::Time;
+use sim_io::Sink;
+use std::marker::{Brand, Model, PhantomData};
+use std::sync::ledger::Blank;
+use tick_law::{Actor, Charter};
+
+/// The run that `C` has, whose actors step in any order: it hands out the steps of actors that are due, and takes them back. What it
+/// has written since it was opened is what the serial loop records.
+#[derive(Drop)]
+pub struct Hub<
+    P: Actor + Drop,
+    N: Actor + Drop,
+    V: Drop,
+    K: Sink + Drop,
+    C: Charter<P, N> + Opening,
+> {
+    pub(crate) floor: Floor<P, N>,
+    pub(crate) trace: Trace<K>,
+    pub(crate) home: Home<P, N>,
+    pub(crate) until: u64,
+    pub(crate) viewer: V,
+    pub(crate) of: PhantomData<C>,
+}
+
+impl<P: Actor + Drop, N: Actor + Drop, V: Drop, K: Sink + Drop, C: Charter<P, N> + Opening> Model
+    for Hub<P, N, V, K, C> {
+    ghost use Rattle.tick_law.specs.PlanView.{system_from};
+    ghost use Rattle.run_hub.specs.GoesOn.{trace_view};
+    ghost use Rattle.run_hub.specs.Hub.{HubView, hub_view, IsHub};
+
+    ghost Value = { HubView };
+
+    ghost view = { λ h. hub_view h.floor (trace_view K.told K.faults h.trace) };
+
+    ghost invariant = { λ h. IsHub (system_from P.machine N.machine C.plan C.start) P.valid N.valid
+        C.plan C.all C.told C.faults h.floor h.until h.home (trace_view K.told K.faults h.trace) };
+}
+
+impl<P: Actor + Drop, N: Actor + Drop, V: Drop, K: Sink + Drop, C: Charter<P, N> + Opening> Hub<
+    P,
+    N,
+    V,
+    K,
+    C,
+> {
+    /// Hands out the step of the actor of least number that is due in the pass that is open. At a boundary the least time begins
+    /// first, or the run is over. It takes no memory.
+    #[tactic(auto, using(crate::proofs::WrittenLaws::written_on))]
+    pub fn claim(&mut self) -> Claim<P, N, C>
+        ensures claims { Claims (length C.start.world.parts) C.plan.until
+            self.old.state self.new.state result }
+        ensures trace { self.new.trace ≡ self.old.trace }
+    {
+        claim_with::<P, N, C, Brand>(&mut self.floor, self.until, Blank::new(1))
+    }
+
+    /// Takes back a step that was handed out. Where all actors of its pass are back the next pass opens, or the time is over and
+    /// its lines are written. A step that is not out here is given back, and nothing changes. It takes no memory.
+    pub fn finish(&mut self, done: Done<P, N, C>) -> Finish<P, N, C>
+        ensures { Finishes (system_from P.machine N.machine C.plan C.start)
+            (length C.start.world.parts) self.old.state self.new.state
+            self.old.trace self.new.trace done result }
+    {
+        finish_with::<P, N, C, K, Brand>(&mut self.floor, &mut self.trace, done, Blank::new(1))
+    }
+
+    /// The boundary in picoseconds: all times below it are done. In a pass it is the time of the pass.
+    pub fn boundary(&self) -> Time
+        ensures { result.0 ≡ self.now.state.at }
+    {
+        Time(self.floor.at)
+    }
+
+    /// Whether the run is over.
+    pub fn over(&self) -> bool
+        ensures { result ≡ is_over self.now.state.stage }
+    {
+        matches!(self.floor.stage, Stage::Over)
+    }
+
+    /// How many ticks were asked for.
+    pub fn asks(&self) -> u64
+        ensures { result ≡ self.now.state.asks }
+    {
+        self.floor.asks
+    }
+
+    /// How many want to look.
+    pub fn wants(&self) -> u32
+        ensures { result ≡ self.now.state.wants }
+    {
+        self.floor.wants
+    }
+
+    /// The sink of a hub that is given up, at any stage: it has the lines of all times below the boundary, or a part of them where
+    /// a write failed.
+    pub fn give_up(self) -> K
+        ensures told { K.told result ≡ self.trace.told }
+        ensures faults { K.faults result ≡ self.trace.faults }
+        ensures whole { self.state.failed ≡ false → GotLines C.plan
+            (system_from P.machine N.machine C.plan C.start) C.all self.state.at
+            C.told (K.told result) }
+        ensures part { self.state.failed ≡ true → GotSomeLines C.plan
+            (system_from P.machine N.machine C.plan C.start) C.all self.state.at
+            C.told (K.told result) }
+        ensures fault { self.state.failed ≡ true → Rose C.faults (K.faults result) }
+    {
+        let Hub {
+            floor: _,
+            trace,
+            home: _,
+            until: _,
+            viewer: _,
+            of: _,
+        } = self;
+        trace.sink
+    }
+}
