@@ -6,3 +6,4 @@ pub mod SideLines
 pub mod TimeLines
 pub mod WrittenLaws
 pub mod TurnLaws
+pub mod WordLaws

@@ -1,8 +1,8 @@
-ghost use Rattle.std.specs.Prelude.{◌≡◌, ◌⊎◌, length, true, false};
+ghost use Rattle.std.specs.Prelude.{◌≡◌, ◌<◌, length, true, false};
 ghost use Rattle.sim_io.specs.Sink.{Rose};
 ghost use Rattle.tick_law.specs.PlanView.{system_from};
 ghost use Rattle.run_gear.specs.Written.{GotLines, GotSomeLines};
-ghost use Rattle.hub_laws.specs.Events.{is_over};
+ghost use Rattle.hub_laws.specs.Events.{is_over, paused_to, wanted, left_now};
 ghost use Rattle.run_hub.specs.Claims.{Claims};
 ghost use Rattle.run_hub.specs.Finishes.{Finishes};
 
@@ -12,6 +12,7 @@ use crate::home::Home;
 use crate::opening::Opening;
 use crate::task::Done;
 use crate::trace::Trace;
+use crate::words::set_words;
 use hub_floor::Floor;
 use hub_laws::Stage;
 use sim_base::Time;
@@ -106,6 +107,54 @@ impl<P: Actor + Drop, N: Actor + Drop, V: Drop, K: Sink + Drop, C: Charter<P, N>
         ensures { result ≡ self.now.state.wants }
     {
         self.floor.wants
+    }
+
+    /// No pass opens any more until it is resumed.
+    #[tactic(auto, using(crate::proofs::WrittenLaws::written_on))]
+    pub fn pause(&mut self)
+        ensures state { self.new.state ≡ paused_to true self.old.state }
+        ensures trace { self.new.trace ≡ self.old.trace }
+    {
+        let (wants, left) = (self.floor.wants, self.floor.left);
+        set_words::<P, N, C>(&mut self.floor, true, wants, left);
+    }
+
+    /// Passes open again.
+    #[tactic(auto, using(crate::proofs::WrittenLaws::written_on))]
+    pub fn resume(&mut self)
+        ensures state { self.new.state ≡ paused_to false self.old.state }
+        ensures trace { self.new.trace ≡ self.old.trace }
+    {
+        let (wants, left) = (self.floor.wants, self.floor.left);
+        set_words::<P, N, C>(&mut self.floor, false, wants, left);
+    }
+
+    /// One more wants to look, before which no pass opens.
+    #[tactic(auto, using(crate::proofs::WrittenLaws::written_on))]
+    pub fn want(&mut self)
+        requires few { self.old.state.wants < 4 }
+        ensures state { self.new.state ≡ wanted self.old.state }
+        ensures trace { self.new.trace ≡ self.old.trace }
+    {
+        let (paused, wants, left) = (self.floor.paused, self.floor.wants, self.floor.left);
+        set_words::<P, N, C>(&mut self.floor, paused, wants + 1, left);
+    }
+
+    /// Nobody lingers at the end.
+    #[tactic(auto, using(crate::proofs::WrittenLaws::written_on))]
+    pub fn leave(&mut self)
+        ensures state { self.new.state ≡ left_now self.old.state }
+        ensures trace { self.new.trace ≡ self.old.trace }
+    {
+        let (paused, wants) = (self.floor.paused, self.floor.wants);
+        set_words::<P, N, C>(&mut self.floor, paused, wants, true);
+    }
+
+    /// Whether lingering is over.
+    pub fn left(&self) -> bool
+        ensures { result ≡ self.now.state.left }
+    {
+        self.floor.left
     }
 
     /// The sink of a hub that is given up, at any stage: it has the lines of all times below the boundary, or a part of them where

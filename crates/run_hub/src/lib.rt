@@ -1,4 +1,5 @@
-//! A hub: a run whose actors step in any order, with the lines that they leave. So far its tasks, what follows where an actor is back, and the lines of a time.
+//! A hub: a run whose actors step in any order, with the lines that they leave. It hands out the steps of actors that are due, and
+//! takes them back.
 #![tactic(auto)]
 
 mod claim;
@@ -11,6 +12,7 @@ mod opening;
 mod task;
 mod trace;
 mod turn;
+mod words;
 
 pub use claim::{Claim, Why};
 pub use count::count_time;
