@@ -68,7 +68,8 @@ fn keys(rt: &impl Print, keys: &PartKeys) -> io::Result<()> {
             line,
             sets,
             ways,
-        } => println!(rt; "cache {} {line} {sets} {ways}", word(map)),
+            misses,
+        } => println!(rt; "cache {} {line} {sets} {ways} {misses}", word(map)),
         PartKeys::Core {
             inst_map,
             data_map,

@@ -3,5 +3,8 @@ pub mod MemoryRows
 pub mod OutsideRows
 pub mod ReportRows
 pub mod CoreRows
+pub mod CacheRows
+pub mod LineRows
+pub mod MissRows
 pub mod RingRows
 pub mod TrafficRows

@@ -1,5 +1,6 @@
 ghost use Rattle.part_kind.specs.Part.{part, IsValid, part_framed, part_stays, part_quiet, part_due_later, part_due_steady, part_period_within};
 
+use cache_comp::Cache;
 use mem_ctrl::Memory;
 use port_msg::RecList;
 use port_row::Ports;
@@ -16,6 +17,7 @@ pub enum Part {
     Agent(Agent),
     Memory(Memory),
     Core(Core),
+    Cache(Cache),
 }
 
 impl Actor for Part {
@@ -35,6 +37,7 @@ impl Actor for Part {
             Part::Agent(agent) => agent.tick(ports, cycle, recs, steps),
             Part::Memory(memory) => memory.tick(ports, cycle, recs, steps),
             Part::Core(core) => core.tick(ports, cycle, recs, steps),
+            Part::Cache(cache) => cache.tick(ports, cycle, recs, steps),
         }
     }
 
@@ -44,6 +47,7 @@ impl Actor for Part {
             Part::Agent(agent) => agent.due(cycle),
             Part::Memory(memory) => memory.due(cycle),
             Part::Core(core) => core.due(cycle),
+            Part::Cache(cache) => cache.due(cycle),
         }
     }
 
@@ -53,6 +57,7 @@ impl Actor for Part {
             Part::Agent(agent) => agent.period(),
             Part::Memory(memory) => memory.period(),
             Part::Core(core) => core.period(),
+            Part::Cache(cache) => cache.period(),
         }
     }
 
@@ -62,6 +67,7 @@ impl Actor for Part {
             Part::Agent(agent) => agent.done(),
             Part::Memory(memory) => memory.done(),
             Part::Core(core) => core.done(),
+            Part::Cache(cache) => cache.done(),
         }
     }
 
@@ -71,6 +77,7 @@ impl Actor for Part {
             Part::Agent(agent) => agent.known(),
             Part::Memory(memory) => memory.known(),
             Part::Core(core) => core.known(),
+            Part::Cache(cache) => cache.known(),
         }
     }
 

@@ -7,7 +7,7 @@ use Rattle.std.specs.Cmp.Lexicographic.{slice_cmp}
 use Rattle.port_msg.specs.PortView.{PortView}
 use Rattle.part_kind.specs.Part.{part as kinds}
 use Rattle.part_kind.specs.declared.part.Part.{Part}
-use Rattle.part_kind.specs.declared.part.Part.TheVariants.{Relay, Agent, Memory, Core}
+use Rattle.part_kind.specs.declared.part.Part.TheVariants.{Relay, Agent, Memory, Core, Cache}
 use Rattle.part_kind.specs.declared.link_kind.LinkKind.{LinkKind}
 use Rattle.serde_json.specs.Data.{Data, Members, string, no_members, member, put}
 use Rattle.serde_json.specs.View.{items_of}
@@ -24,7 +24,7 @@ use Rattle.part_view.specs.declared.entries.PartList.TheVariants.{All, Agents, C
 use Rattle.part_view.specs.declared.entries.PortList.{PortList}
 use Rattle.part_view.specs.declared.entries.PortList.TheVariants.{Lengths, Full}
 use Rattle.part_view.specs.declared.shown.Shown.{Shown}
-use Rattle.part_view.specs.declared.shown.Shown.TheVariants.{Nothing, Number, Cause, Phase}
+use Rattle.part_view.specs.declared.shown.Shown.TheVariants.{Nothing, Number, Cause, CorePhase, CachePhase}
 
 neither : (a b : Bool) → a ≡ false → b ≡ false → (a || b) ≡ false
 neither true b e f = cc
@@ -49,12 +49,14 @@ plain_agent name (Relay s) = tt
 plain_agent name (Agent s) = refl
 plain_agent name (Memory s) = tt
 plain_agent name (Core s) = tt
+plain_agent name (Cache s) = tt
 
 plain_core : (name : List ℕ) (p : Part) → IsPlain (part_entry Cores name p)
 plain_core name (Relay s) = tt
 plain_core name (Agent s) = tt
 plain_core name (Memory s) = tt
 plain_core name (Core s) = refl
+plain_core name (Cache s) = tt
 
 plain_busy : (name : List ℕ) (p : Part) → IsPlain (part_entry Busy name p)
 plain_busy name p = by_done (kinds.done p)
@@ -87,7 +89,8 @@ plain_shown : (v : Shown) → has_float (shown_data v) ≡ false
 plain_shown Nothing = refl
 plain_shown (Number n) = refl
 plain_shown (Cause cause) = refl
-plain_shown (Phase phase) = refl
+plain_shown (CorePhase phase) = refl
+plain_shown (CachePhase phase) = refl
 
 plain_put_at : (o : Ordering) (k l : List ℕ) (d e : Data) (ms : Members) → has_float d ≡ false → has_float e ≡ false → members_have_float ms ≡ false → members_have_float (put k d ms) ≡ false → members_have_float (match_ordering o (member k d (member l e ms)) (member l d ms) (member l e (put k d ms))) ≡ false
 plain_put_at Less k l d e ms f g h later = neither (has_float d) _ f (neither (has_float e) _ g h)

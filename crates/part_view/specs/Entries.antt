@@ -4,7 +4,7 @@ use Rattle.port_msg.specs.PortView.{PortView}
 use Rattle.rv_core.specs.Core.{is_halted}
 use Rattle.part_kind.specs.Part.{part as kinds}
 use Rattle.part_kind.specs.declared.part.Part.{Part}
-use Rattle.part_kind.specs.declared.part.Part.TheVariants.{Relay, Agent, Memory, Core}
+use Rattle.part_kind.specs.declared.part.Part.TheVariants.{Relay, Agent, Memory, Core, Cache}
 use Rattle.serde_json.specs.Data.{Data, number, unsigned, boolean, string, object, no_members, member}
 use Rattle.world_query.specs.Legend.{PortLabel}
 use Rattle.part_view.specs.Fields.{kind_word}
@@ -26,6 +26,7 @@ agent_entry name (Agent s) = Some (object (member (codes "answered") (number_of 
 agent_entry name (Relay s) = None
 agent_entry name (Memory s) = None
 agent_entry name (Core s) = None
+agent_entry name (Cache s) = None
 
 -- `{"halted":H,"name":N,"retired":R}` of a core
 abbrev pub core_entry : List ℕ → Part → Option Data
@@ -33,6 +34,7 @@ core_entry name (Core s) = Some (object (member (codes "halted") (boolean (is_ha
 core_entry name (Relay s) = None
 core_entry name (Agent s) = None
 core_entry name (Memory s) = None
+core_entry name (Cache s) = None
 
 -- something, unless a test holds
 abbrev pub unless : Bool → Data → Option Data

@@ -9,33 +9,38 @@ use Rattle.rv_isa.specs.Regs.{register}
 use Rattle.rv_core.specs.Core.{CoreState, phase_of, cause_of}
 use Rattle.rv_core.specs.declared.phase.CorePhase.{CorePhase}
 use Rattle.rv_core.specs.declared.phase.CorePhase.TheVariants.{Fetch, WaitInst, Mem, WaitData, Flush, WaitFlush, Halted}
+use Rattle.cache_comp.specs.Cache.{CacheState, phase_of as cache_phase_of, pending}
 use Rattle.part_kind.specs.declared.part.Part.{Part}
-use Rattle.part_kind.specs.declared.part.Part.TheVariants.{Relay, Agent, Memory, Core}
+use Rattle.part_kind.specs.declared.part.Part.TheVariants.{Relay, Agent, Memory, Core, Cache}
 use Rattle.serde_json.specs.Data.{Data, null, number, unsigned, string}
+use Rattle.part_view.specs.CachePhases.{cache_phase_word}
 use Rattle.part_view.specs.declared.shown.Shown.{Shown}
-use Rattle.part_view.specs.declared.shown.Shown.TheVariants.{Nothing, Number, Cause as Halt, Phase}
+use Rattle.part_view.specs.declared.shown.Shown.TheVariants.{Nothing, Number, Cause as Halt, CorePhase as InCore, CachePhase as InCache}
 
 abbrev pub kind_word : Part → List ℕ
 kind_word (Relay s) = codes "relay"
 kind_word (Agent s) = codes "agent"
 kind_word (Memory s) = codes "memory"
 kind_word (Core s) = codes "core"
+kind_word (Cache s) = codes "cache"
 
-abbrev pub phase_word : CorePhase → List ℕ
-phase_word Fetch = codes "fetch"
-phase_word WaitInst = codes "wait-inst"
-phase_word Mem = codes "mem"
-phase_word WaitData = codes "wait-data"
-phase_word Flush = codes "flush"
-phase_word WaitFlush = codes "wait-flush"
-phase_word Halted = codes "halted"
+-- the words of the phases of cores
+abbrev pub core_phase_word : CorePhase → List ℕ
+core_phase_word Fetch = codes "fetch"
+core_phase_word WaitInst = codes "wait-inst"
+core_phase_word Mem = codes "mem"
+core_phase_word WaitData = codes "wait-data"
+core_phase_word Flush = codes "flush"
+core_phase_word WaitFlush = codes "wait-flush"
+core_phase_word Halted = codes "halted"
 
 -- the JSON of what a field shows
 abbrev pub shown_data : Shown → Data
 shown_data Nothing = null
 shown_data (Number n) = number (unsigned n)
 shown_data (Halt cause) = string (cause_text cause)
-shown_data (Phase phase) = string (phase_word phase)
+shown_data (InCore phase) = string (core_phase_word phase)
+shown_data (InCache phase) = string (cache_phase_word phase)
 
 -- a number, where there is one
 abbrev pub number_or_nothing : Option ℕ → Shown
@@ -68,16 +73,20 @@ memory_fields s = (codes "queue", Number (length s.queue)) ∷ (codes "served", 
 
 -- what a core has before its registers
 abbrev pub core_head : CoreState → List Field
-core_head s = (codes "cause", cause_or_nothing (cause_of s.stage)) ∷ (codes "pc", Number s.pc) ∷ (codes "phase", Phase (phase_of s.stage)) ∷ (codes "retired", Number s.retired) ∷ []
+core_head s = (codes "cause", cause_or_nothing (cause_of s.stage)) ∷ (codes "pc", Number s.pc) ∷ (codes "phase", InCore (phase_of s.stage)) ∷ (codes "retired", Number s.retired) ∷ []
 
 abbrev pub core_fields : CoreState → List Field
 core_fields s = core_head s ++ register_fields s.regs 32
+
+abbrev pub cache_fields : CacheState → List Field
+cache_fields s = (codes "hits", Number s.hits) ∷ (codes "misses", Number s.misses) ∷ (codes "pending", Number (pending s)) ∷ (codes "phase", InCache (cache_phase_of s.stage)) ∷ []
 
 abbrev pub fields_of_part : Part → List Field
 fields_of_part (Relay s) = relay_fields s
 fields_of_part (Agent s) = agent_fields s
 fields_of_part (Memory s) = memory_fields s
 fields_of_part (Core s) = core_fields s
+fields_of_part (Cache s) = cache_fields s
 
 -- the names of fields, and what they show
 abbrev pub names : List Field → List (List ℕ)

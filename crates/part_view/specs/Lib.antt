@@ -1,3 +1,4 @@
+pub mod CachePhases
 pub mod Fields
 pub mod Entries
 pub mod Bodies

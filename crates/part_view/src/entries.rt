@@ -64,7 +64,7 @@ fn agent_entry(alloc: Global, name: &Word, part: &Part) -> Result<Option<Value>,
 {
     match part {
         Part::Agent(agent) => Ok(Some(agent_counts(alloc, name, agent)?)),
-        Part::Relay(_) | Part::Memory(_) | Part::Core(_) => Ok(None),
+        Part::Relay(_) | Part::Memory(_) | Part::Core(_) | Part::Cache(_) => Ok(None),
     }
 }
 
@@ -73,7 +73,7 @@ fn core_entry(alloc: Global, name: &Word, part: &Part) -> Result<Option<Value>, 
 {
     match part {
         Part::Core(core) => Ok(Some(core_counts(alloc, name, core)?)),
-        Part::Relay(_) | Part::Agent(_) | Part::Memory(_) => Ok(None),
+        Part::Relay(_) | Part::Agent(_) | Part::Memory(_) | Part::Cache(_) => Ok(None),
     }
 }
 

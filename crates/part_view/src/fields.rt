@@ -1,10 +1,11 @@
 ghost use Rattle.std.specs.Prelude.{◌≡◌, ◌+◌, ◌≤◌, ◌++◌, length};
 ghost use Rattle.arrayvec.specs.ArrayVec.{array_vec_len};
 ghost use Rattle.rv_core.specs.Core.{cause_of};
-ghost use Rattle.part_view.specs.Fields.{number_or_nothing, cause_or_nothing, register_fields, relay_fields, agent_fields, memory_fields, core_head, core_fields, kind_word, values, values_of};
+ghost use Rattle.part_view.specs.Fields.{number_or_nothing, cause_or_nothing, register_fields, relay_fields, agent_fields, memory_fields, core_head, core_fields, cache_fields, kind_word, values, values_of};
 
 use crate::shown::Shown;
 use arrayvec::ArrayVec;
+use cache_comp::Cache;
 use mem_ctrl::Memory;
 use part_kind::Part;
 use rv_core::Core;
@@ -28,6 +29,7 @@ pub fn kind_word(part: &Part) -> &'static str
         Part::Agent(_) => "agent",
         Part::Memory(_) => "memory",
         Part::Core(_) => "core",
+        Part::Cache(_) => "cache",
     }
 }
 
@@ -89,8 +91,20 @@ fn core_head(core: &Core) -> [Shown; 4]
     [
         cause_or_nothing(core),
         Shown::Number(u64::from(core.pc())),
-        Shown::Phase(core.phase()),
+        Shown::CorePhase(core.phase()),
         Shown::Number(core.retired()),
+    ]
+}
+
+/// `hits`, `misses`, `pending` and `phase`.
+fn cache_values(cache: &Cache) -> [Shown; 4]
+    ensures { result ≡ values (cache_fields cache.now) }
+{
+    [
+        Shown::Number(cache.hits()),
+        Shown::Number(cache.misses()),
+        Shown::Number(u64::from(cache.pending())),
+        Shown::CachePhase(cache.phase()),
     ]
 }
 
@@ -132,5 +146,6 @@ pub fn values_of(part: &Part) -> Values
         Part::Agent(agent) => only(&agent_values(agent)),
         Part::Memory(memory) => only(&memory_values(memory)),
         Part::Core(core) => core_values(core),
+        Part::Cache(cache) => only(&cache_values(cache)),
     }
 }

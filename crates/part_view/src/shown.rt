@@ -1,8 +1,10 @@
 ghost use Rattle.std.specs.Prelude.{◌≡◌, IfOk, string_bytes};
 ghost use Rattle.serde_json.specs.View.{view};
 ghost use Rattle.trace_out.specs.Lines.{cause_text};
-ghost use Rattle.part_view.specs.Fields.{phase_word, shown_data};
+ghost use Rattle.part_view.specs.Fields.{core_phase_word, shown_data};
+ghost use Rattle.part_view.specs.CachePhases.{cache_phase_word};
 
+use cache_comp::CachePhase;
 use port_msg::Cause;
 use rv_core::CorePhase;
 use serde_json::Value;
@@ -18,11 +20,13 @@ pub enum Shown {
     /// Why a core halted.
     Cause(Cause),
     /// What a core does next.
-    Phase(CorePhase),
+    CorePhase(CorePhase),
+    /// What a cache does next.
+    CachePhase(CachePhase),
 }
 
-fn phase_word(phase: CorePhase) -> &'static str
-    ensures { result.now ≡ phase_word phase }
+fn core_phase_word(phase: CorePhase) -> &'static str
+    ensures { result.now ≡ core_phase_word phase }
 {
     match phase {
         CorePhase::Fetch => "fetch",
@@ -32,6 +36,24 @@ fn phase_word(phase: CorePhase) -> &'static str
         CorePhase::Flush => "flush",
         CorePhase::WaitFlush => "wait-flush",
         CorePhase::Halted => "halted",
+    }
+}
+
+fn cache_phase_word(phase: CachePhase) -> &'static str
+    ensures { result.now ≡ cache_phase_word phase }
+{
+    match phase {
+        CachePhase::Idle => "idle",
+        CachePhase::Evict => "evict",
+        CachePhase::WaitEvict => "wait-evict",
+        CachePhase::Fill => "fill",
+        CachePhase::WaitFill => "wait-fill",
+        CachePhase::Reply => "reply",
+        CachePhase::Flush => "flush",
+        CachePhase::WaitFlush => "wait-flush",
+        CachePhase::Down => "down",
+        CachePhase::WaitDown => "wait-down",
+        CachePhase::Run => "run",
     }
 }
 
@@ -62,7 +84,8 @@ impl Shown {
             Shown::Nothing => Ok(Value::Null),
             Shown::Number(n) => Ok(Value::from(n)),
             Shown::Cause(cause) => Ok(Value::String(cause_text(alloc, cause)?)),
-            Shown::Phase(phase) => Ok(Value::try_from_str(alloc, phase_word(phase))?),
+            Shown::CorePhase(phase) => Ok(Value::try_from_str(alloc, core_phase_word(phase))?),
+            Shown::CachePhase(phase) => Ok(Value::try_from_str(alloc, cache_phase_word(phase))?),
         }
     }
 }

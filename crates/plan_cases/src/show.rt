@@ -1,4 +1,5 @@
 //! A plan as lines, one for each part, link and port, and one for the own ports of each.
+use cache_comp::{Cache, CachePhase};
 use mem_ctrl::Memory;
 use part_kind::{LinkKind, Part};
 use sim_base::Name;
@@ -15,6 +16,7 @@ fn kind(part: &Part) -> &'static str {
         Part::Agent(_) => "agent",
         Part::Memory(_) => "memory",
         Part::Core(_) => "core",
+        Part::Cache(_) => "cache",
     }
 }
 
@@ -41,12 +43,34 @@ fn bytes(rt: &impl Print, name: &Name, memory: &Memory) -> io::Result<()> {
     Ok(())
 }
 
-/// Prints where each core begins, and the bytes of each memory.
+/// Prints how many misses a cache takes at once, what it does first, and the ports to which it leads the first 8 blocks of 64 bytes.
+fn cache(rt: &impl Print, name: &Name, cache: &Cache) -> io::Result<()> {
+    let phase = match cache.phase() {
+        CachePhase::Idle => "idle",
+        CachePhase::Run => "run",
+        _ => "?",
+    };
+    print!(rt;
+        "cache {} misses {} {phase} to",
+        text(name),
+        cache.miss_room()
+    )?;
+    for block in 0..8 {
+        match cache.map().find(block * 64) {
+            Some(port) => print!(rt; " {}", port.0)?,
+            None => print!(rt; " -")?,
+        }
+    }
+    println!(rt; "")
+}
+
+/// Prints where each core begins, the bytes of each memory, and how each cache is set up.
 fn states(rt: &impl Print, plan: &Plan<Part, LinkKind>) -> io::Result<()> {
     for (part, name) in plan.parts.iter().zip(&plan.part_names) {
         match part {
             Part::Core(core) => println!(rt; "pc {} {}", text(name), core.pc())?,
             Part::Memory(memory) => bytes(rt, name, memory)?,
+            Part::Cache(part) => cache(rt, name, part)?,
             Part::Relay(_) | Part::Agent(_) => {}
         }
     }
@@ -60,8 +84,8 @@ fn links(rt: &impl Print, plan: &Plan<Part, LinkKind>) -> io::Result<()> {
     Ok(())
 }
 
-/// Prints the last time, and then each part, where cores begin and what memories hold, each link and port, and the own ports of each
-/// part and link.
+/// Prints the last time, and then each part, where cores begin, what memories hold and how caches are set up, each link and port, and
+/// the own ports of each part and link.
 pub fn plan(rt: &impl Print, plan: &Plan<Part, LinkKind>) -> io::Result<()> {
     println!(rt; "until {}", plan.until.0)?;
     parts(rt, plan)?;

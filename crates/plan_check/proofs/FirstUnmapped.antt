@@ -1,9 +1,8 @@
 -- The search for the first segment without a place, one program further.
 use Rattle.std.proofs.Common.{◌≡◌, ℕ, ◌+◌, ◌≤◌, zero, suc, List, [], ◌∷◌, drop, length, refl, ap, arith, ◌∙◌, sym, add-one}
-use Rattle.std.specs.Prelude.{Option, Some, None, slice_get}
+use Rattle.std.specs.Prelude.{Some, None, slice_get}
 use Rattle.sim_config.specs.Tables.{PlanTables, ProgramTable}
 use Rattle.elf_load.specs.declared.image.Image.{Image}
-use Rattle.plan_check.specs.declared.unmapped.Unmapped.{Unmapped}
 use Rattle.plan_check.specs.Programs.{data_ranges, told_or, unmapped_from, unmapped_in}
 
 drop_next : {A : Type 0} (xs : List A) (n : ℕ) (x : A) → slice_get xs n ≡ Some x → drop n xs ≡ x ∷ drop (n + 1) xs

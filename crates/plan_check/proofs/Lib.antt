@@ -7,3 +7,4 @@ pub mod MapLemmas
 pub mod LoopSteps
 pub mod Writing
 pub mod FirstUnmapped
+pub mod CacheLemmas

@@ -1,7 +1,7 @@
 -- The ports of links, where the rules on names and ports are kept.
 use Rattle.std.proofs.Common.{◌≡◌, ℕ, ◌+◌, ◌<◌, ◌≤◌, zero, suc, Bool, true, false, cond, List, [], ◌∷◌, ◌++◌, map, take, length, get_or, refl, ap, arith, ◌∙◌, sym, subst, append_assoc, inl, inr}
-use Rattle.std.specs.Prelude.{Option, Some, None, slice_get, position, nat_lt, is_none, unwrap_or, option_and_then, option_map, bytes_eq, ◌||◌, ◌==◌, ◌⊎◌}
-use Rattle.std.specs.List.{list_any, position_or_len, Any}
+use Rattle.std.specs.Prelude.{Option, Some, None, slice_get, nat_lt, is_none, unwrap_or, option_map, bytes_eq, ◌||◌, ◌⊎◌}
+use Rattle.std.specs.List.{list_any}
 use Rattle.std.proofs.lemmas.Bool.Decides.{nat_tests}
 use Rattle.std.proofs.lemmas.List.Folds.{Any-from_list_any, list_any_at}
 use Rattle.std.proofs.lemmas.List.Quantifiers.{position-Some}
@@ -12,10 +12,10 @@ use Rattle.sim_config.specs.declared.link_text.PortRef.{PortRef}
 use Rattle.tick_law.specs.declared.port_plan.PortPlan.{PortPlan}
 use Rattle.tick_law.specs.Wires.{Wires, Wired, Has, AllApart, own_of, owner_of}
 use Rattle.plan_rules.specs.Kinds.{port_count, port_words, word_text}
-use Rattle.plan_rules.specs.Text.{◌>>=◌, first_port, keys_at, link_ports, part_no, place_of, port_no, port_numbers, some_below}
+use Rattle.plan_rules.specs.Text.{◌>>=◌, first_port, keys_at, link_ports, part_no, place_of, port_no, port_numbers}
 use Rattle.plan_rules.specs.Rules.{has_twice, is_port, link_of, ports_at}
-use Rattle.plan_check.specs.Plan.{own_of_link, ports_to, port_plan, count_of}
-use Rattle.plan_check.proofs.Places.{length-map, get_front, get_past, get_map, get_take, below_or, some_at, within, get_there, apart_at, any_false, same_number}
+use Rattle.plan_check.specs.Plan.{own_of_link, ports_to, count_of}
+use Rattle.plan_check.proofs.Places.{length-map, get_past, get_map, get_take, below_or, within, apart_at, any_false, same_number}
 use Rattle.plan_check.proofs.PartPorts.{count_at, first_port_step, first_port_rises, length-ports_to, part_of_port, port_at}
 
 -- what the rules on names and ports say of the ports of links

@@ -1,8 +1,8 @@
 -- One table further in the lists of a plan.
-use Rattle.std.proofs.Common.{◌≡◌, ℕ, ◌+◌, ◌<◌, zero, suc, List, [], ◌∷◌, ◌++◌, map, take, length, refl, ap, arith, ◌∙◌, sym, add-one, append_assoc}
-use Rattle.std.specs.Prelude.{Option, Some, None, slice_get, option_to_list}
+use Rattle.std.proofs.Common.{◌≡◌, ℕ, ◌+◌, zero, suc, List, [], ◌∷◌, ◌++◌, map, take, ap, ◌∙◌, sym, add-one, append_assoc}
+use Rattle.std.specs.Prelude.{Option, Some, slice_get, option_to_list}
 use Rattle.std.proofs.lemmas.List.{map-append}
-use Rattle.sim_config.specs.Tables.{PlanTables, PartTable, LinkTable, RangeTable}
+use Rattle.sim_config.specs.Tables.{PlanTables, PartTable, LinkTable}
 use Rattle.elf_load.specs.declared.image.Image.{Image}
 use Rattle.part_kind.specs.declared.part.Part.{Part}
 use Rattle.part_kind.specs.declared.link_kind.LinkKind.{LinkKind}
@@ -23,10 +23,10 @@ links_step text n table l so_far now there is before pushed =
     pushed ∙ ap (λ xs. xs ++ l ∷ []) before ∙ ap (λ x. links_to text n ++ x ∷ []) is
     ∙ ap (λ o. links_to text n ++ option_to_list (o >>= (λ t. Some (link_with text n t)))) (sym there) ∙ ap (links_to text) (sym (add-one n))
 
-pub parts_step : (text : PlanTables) (images : List Image) (n : ℕ) (table : PartTable) (p : Part) (so_far now : List Part) → slice_get text.parts n ≡ Some table → part_of text images n table ≡ Some p → so_far ≡ parts_to text images n → now ≡ so_far ++ p ∷ [] → now ≡ parts_to text images (n + 1)
+pub parts_step : (text : PlanTables) (images : List Image) (n : ℕ) (table : PartTable) (p : Part) (so_far now : List Part) → slice_get text.parts n ≡ Some table → p ≡ part_of text images n table → so_far ≡ parts_to text images n → now ≡ so_far ++ p ∷ [] → now ≡ parts_to text images (n + 1)
 parts_step text images n table p so_far now there is before pushed =
-    pushed ∙ ap (λ xs. xs ++ p ∷ []) before ∙ ap (λ o. parts_to text images n ++ option_to_list o) (sym is)
-    ∙ ap (λ o. parts_to text images n ++ option_to_list (o >>= part_of text images n)) (sym there) ∙ ap (parts_to text images) (sym (add-one n))
+    pushed ∙ ap (λ xs. xs ++ p ∷ []) before ∙ ap (λ x. parts_to text images n ++ x ∷ []) is
+    ∙ ap (λ o. parts_to text images n ++ option_to_list (o >>= (λ t. Some (part_of text images n t)))) (sym there) ∙ ap (parts_to text images) (sym (add-one n))
 
 pub mapped_step : {A B C : Type 0} (f : A → C) (g : B → C) (so_far now : List A) (x : A) (ys : List B) (n : ℕ) (y : B) → map f so_far ≡ map g (take n ys) → now ≡ so_far ++ x ∷ [] → f x ≡ g y → slice_get ys n ≡ Some y → map f now ≡ map g (take (n + 1) ys)
 mapped_step f g so_far now x ys n y before pushed same there =

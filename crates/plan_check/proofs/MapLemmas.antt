@@ -1,15 +1,15 @@
 -- The maps of a text that breaks no rule.
-use Rattle.std.proofs.Common.{◌≡◌, ℕ, ◌<◌, ◌≤◌, true, false, List, [], map, take, length, get_or, refl, ap, arith, ◌∙◌, sym, subst, inl, inr}
-use Rattle.std.specs.Prelude.{Option, Some, None, slice_get, AllPairs, ◌⊎◌}
+use Rattle.std.proofs.Common.{◌≡◌, ℕ, ◌<◌, false, map, take, length, get_or, ap, ◌∙◌, sym}
+use Rattle.std.specs.Prelude.{AllPairs}
 use Rattle.std.specs.List.{list_any}
-use Rattle.sim_config.specs.Tables.{PlanTables, RangeTable, MapTable}
+use Rattle.sim_config.specs.Tables.{PlanTables}
 use Rattle.addr_map.specs.Range.{Apart}
 use Rattle.plan_rules.specs.declared.rule.PlanRule.TheVariants.{MapOverlap}
 use Rattle.plan_rules.specs.Rules.{breaks, map_overlap, overlaps}
-use Rattle.plan_rules.specs.Text.{passes, ranges_at, ranges_of}
+use Rattle.plan_rules.specs.Text.{passes, ranges_at}
 use Rattle.plan_rules.proofs.Few.{no_range}
 use Rattle.plan_check.specs.Maps.{range_of}
-use Rattle.plan_check.proofs.Places.{below_or, some_at, get_past}
+use Rattle.plan_check.proofs.Places.{some_at}
 use Rattle.plan_check.proofs.Ranges.{blank_range, ranges_apart}
 use Rattle.plan_check.proofs.PlanLemmas.{IsKept}
 

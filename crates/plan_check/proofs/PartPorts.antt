@@ -1,6 +1,6 @@
 -- The ports of parts: counted part by part.
 use Rattle.std.proofs.Common.{◌≡◌, ℕ, ◌+◌, ◌<◌, ◌≤◌, zero, suc, List, [], ◌∷◌, ◌++◌, map, take, length, get_or, sum_by, refl, ap, arith, ◌∙◌, sym, subst, length-append, inl, inr, add-one, add-zero, ◌-◌}
-use Rattle.std.specs.Prelude.{Option, Some, None, slice_get, ◌⊎◌, slice_index_or}
+use Rattle.std.specs.Prelude.{Option, Some, None, slice_get, ◌⊎◌}
 use Rattle.std.proofs.lemmas.List.Sums.{sum_by_more}
 use Rattle.sim_config.specs.Tables.{PlanTables, PartTable}
 use Rattle.sim_config.specs.declared.part_text.PartKeys.TheVariants.{Relay}

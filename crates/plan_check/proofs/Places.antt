@@ -1,10 +1,9 @@
 -- What stands at the places of lists.
-use Rattle.std.proofs.Common.{◌≡◌, ℕ, ◌+◌, ◌<◌, ◌≤◌, zero, suc, Bool, true, false, List, [], ◌∷◌, ◌++◌, map, take, drop, length, get_or, refl, ap, arith, ◌∙◌, sym, subst, length-append, inl, inr}
-use Rattle.std.specs.Prelude.{Option, Some, None, slice_get, nat_lt, ◌||◌, ◌==◌, ◌⊎◌, is_none}
+use Rattle.std.proofs.Common.{◌≡◌, ℕ, ◌+◌, ◌<◌, ◌≤◌, zero, suc, Bool, true, false, List, [], ◌∷◌, ◌++◌, map, take, drop, length, get_or, refl, ap, arith, ◌∙◌, sym, length-append, inl, inr}
+use Rattle.std.specs.Prelude.{Some, slice_get, nat_lt, ◌||◌, ◌==◌, ◌⊎◌}
 use Rattle.std.specs.List.{list_any}
 use Rattle.std.proofs.lemmas.Bool.Decides.{nat_tests}
-use Rattle.std.proofs.lemmas.List.{map-append}
-use Rattle.tick_law.specs.Wires.{Has, AllApart}
+use Rattle.tick_law.specs.Wires.{AllApart}
 use Rattle.plan_check.specs.Plan.{up_to}
 
 pub length-map : {A B : Type 0} (f : A → B) (xs : List A) → length (map f xs) ≡ length xs

@@ -1,7 +1,6 @@
 -- The plan of a text that breaks no rule is a plan.
-use Rattle.std.proofs.Common.{◌≡◌, ℕ, ◌+◌, ◌<◌, ◌≤◌, zero, suc, Bool, true, false, List, [], ◌∷◌, ◌++◌, map, take, drop, length, get_or, sum_by, refl, ap, arith, ◌∙◌, sym, subst, length-append, inl, inr}
-use Rattle.std.specs.Prelude.{Option, Some, None, find, slice_get, is_none, option_map, All, ◌||◌, ◌⊎◌}
-use Rattle.std.specs.List.{list_any}
+use Rattle.std.proofs.Common.{◌≡◌, ℕ, ◌+◌, ◌<◌, ◌≤◌, zero, suc, Bool, true, false, List, [], ◌∷◌, map, drop, length, get_or, refl, ap, arith, ◌∙◌, sym, subst, length-append, inl, inr}
+use Rattle.std.specs.Prelude.{Option, Some, None, slice_get, is_none, option_map, All, ◌||◌, ◌⊎◌}
 use Rattle.std.proofs.lemmas.Option.{slice_get-map}
 use Rattle.sim_config.specs.Tables.{PlanTables, PartTable, LinkTable}
 use Rattle.sim_config.specs.declared.fault.TableNo.{TableNo}
@@ -14,18 +13,17 @@ use Rattle.part_kind.specs.LinkKind.{link, link_own}
 use Rattle.part_kind.specs.declared.part.Part.{Part}
 use Rattle.part_kind.specs.declared.link_kind.LinkKind.{LinkKind}
 use Rattle.plan_rules.specs.declared.rule.PlanRule.{PlanRule}
-use Rattle.plan_rules.specs.declared.rule.PlanRule.TheVariants.{TooMany, DuplicateName, NoSuchName, WrongTarget, PortTwice, PortUnplugged, NotOnLink, MapOverlap, MapOutside, LineTooLong, MemoryOver}
+use Rattle.plan_rules.specs.declared.rule.PlanRule.TheVariants.{TooMany, DuplicateName, NoSuchName, WrongTarget, PortTwice, PortUnplugged, NotOnLink, MapOverlap}
 use Rattle.plan_rules.specs.declared.rule.TheConstants.{RULES}
-use Rattle.plan_rules.specs.declared.breach.Breach.{Breach}
-use Rattle.plan_rules.specs.First.{all_tables, first_broken, first_of, first_table, told_or}
+use Rattle.plan_rules.specs.First.{first_broken, first_of, first_table, told_or}
 use Rattle.plan_rules.specs.Kinds.{port_count}
 use Rattle.plan_rules.specs.Numbers.{IsFew}
-use Rattle.plan_rules.specs.Rules.{breaks, link_of, no_such_name, port_twice, port_unplugged, ports_at}
-use Rattle.plan_rules.specs.Text.{first_port, keys_at, link_ports, passes, port_numbers, some_below}
+use Rattle.plan_rules.specs.Rules.{breaks, link_of, no_such_name, port_twice, port_unplugged}
+use Rattle.plan_rules.specs.Text.{first_port, link_ports, passes, port_numbers, some_below}
 use Rattle.plan_rules.proofs.Few.{no_link, no_part, first_port_all}
 use Rattle.plan_check.specs.Plan.{HasCapacity, count_of, links_to, own_of_link, own_to, parts_to, plan_of, ports_to}
 use Rattle.plan_check.proofs.Places.{length-map, drop_front, take_front, within, get_there, get_map, one_below}
-use Rattle.plan_check.proofs.PartPorts.{count_at, count_own_to, length-ports_to, own_length, part_owned, parts_wired, wires_of_parts, wires_of_parts_are}
+use Rattle.plan_check.proofs.PartPorts.{count_own_to, length-ports_to, own_length, part_owned, parts_wired, wires_of_parts, wires_of_parts_are}
 use Rattle.plan_check.proofs.LinkPorts.{AreJoined, link_owned, links_wired, own_count, wires_of_links, wires_of_links_are}
 
 -- where nothing is told, the first rule is kept and the later ones tell nothing

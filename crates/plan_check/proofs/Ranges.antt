@@ -1,6 +1,6 @@
 -- The ranges of maps are those that a map of addresses takes.
-use Rattle.std.proofs.Common.{◌≡◌, ℕ, ◌+◌, ◌*◌, ◌/◌, ◌%◌, ◌^◌, ◌<◌, ◌≤◌, zero, suc, Bool, true, false, List, [], ◌∷◌, map, take, length, get_or, refl, ap, arith, ◌∙◌, sym, subst, inl, inr}
-use Rattle.std.specs.Prelude.{Option, Some, None, slice_get, nat_lt, ◌&&◌, ◌==◌, count_ones, AllPairs, IsTrue, find, ◌⊎◌}
+use Rattle.std.proofs.Common.{◌≡◌, ℕ, ◌*◌, ◌/◌, ◌%◌, ◌^◌, ◌<◌, ◌≤◌, zero, suc, true, false, List, [], ◌∷◌, map, take, length, get_or, refl, ap, arith, ◌∙◌, sym, subst}
+use Rattle.std.specs.Prelude.{count_ones, AllPairs, IsTrue}
 use Rattle.std.specs.List.{list_any}
 use Rattle.std.specs.Int.{IsPowerOfTwo, is_power_of_two}
 use Rattle.std.proofs.lemmas.Bool.Decides.{nat_tests}
@@ -8,10 +8,7 @@ use Rattle.std.proofs.lemmas.Nat.{zero_from_ones}
 use lib.Count.{ones_step, ones-le}
 use Rattle.sim_config.specs.Tables as tables
 use Rattle.sim_config.specs.Tables.{PlanTables, RangeTable, MapTable}
-use Rattle.addr_map.specs.Range.{IsRange, Apart, Holds}
-use Rattle.addr_map.specs.declared.range.Range.{Range}
-use Rattle.sim_config.specs.declared.fault.TableNo.{TableNo}
-use Rattle.plan_rules.specs.Text.{ranges_at}
+use Rattle.addr_map.specs.Range.{IsRange, Apart}
 use Rattle.plan_rules.specs.Rules.{overlaps}
 use Rattle.plan_check.specs.Maps.{range_of}
 use Rattle.plan_check.proofs.Places.{length-map, get_map, get_take, any_false}

@@ -1,15 +1,16 @@
 -- Bytes that are written over, piece by piece.
-use Rattle.std.proofs.Common.{◌≡◌, ℕ, ◌+◌, ◌-◌, ◌<◌, ◌≤◌, zero, suc, Bool, true, false, List, [], ◌∷◌, ◌++◌, map, take, length, refl, ap, arith, ◌∙◌, sym, add-one, inl, inr}
+use Rattle.std.proofs.Common.{◌≡◌, ℕ, ◌+◌, ◌-◌, ◌<◌, ◌≤◌, zero, suc, Bool, true, false, List, [], ◌∷◌, ◌++◌, take, length, refl, ap, arith, ◌∙◌, sym, add-one, inl, inr}
 use Rattle.std.specs.Prelude.{Option, Some, None, ◌==◌, ◌&&◌, nat_lt, nat_le, slice_get, slice_set, unwrap_or, if◌then◌else◌, ◌⊎◌}
 use Rattle.std.specs.Option.{option_or}
 use Rattle.std.proofs.lemmas.Bool.Decides.{nat_tests}
 use Rattle.std.proofs.lemmas.List.{map-append}
 use Rattle.sim_base.specs.declared.numbers.PortNo.{PortNo}
 use Rattle.addr_map.specs.declared.range.Range.{Range}
-use Rattle.addr_map.specs.Range.{target_at}
 use Rattle.elf_load.specs.declared.image.Image.{Image}
 use Rattle.elf_load.specs.declared.segment.Segment.{Segment}
-use Rattle.plan_check.specs.Programs.{Load, program_loads, loads_of, has_address, is_at, segment_byte, byte_for, last_byte, written_over}
+use Rattle.plan_check.specs.Caches.{Way, end_of, is_at}
+use Rattle.plan_check.specs.declared.caches.CacheMap.{CacheMap}
+use Rattle.plan_check.specs.Programs.{Load, program_loads, loads_of, has_address, segment_byte, byte_for, last_byte, written_over}
 
 -- a byte at one address alone
 abbrev pub only : ℕ → Option ℕ → ℕ → Option ℕ
@@ -119,7 +120,7 @@ and_none true = refl
 and_none false = refl
 
 no_address : (port : PortNo) (load : Load) (a : ℕ) → has_address load.segment a ≡ false → byte_for port load a ≡ None
-no_address port load a none = ap (λ b. if b && is_at port (target_at load.map a) then Some (segment_byte load.file load.segment a) else None) none
+no_address port load a none = ap (λ b. if b && is_at port (end_of load.way a) then Some (segment_byte load.file load.segment a) else None) none
 
 in_front : (port : PortNo) (load : Load) (a : ℕ) → a < load.segment.vaddr → byte_for port load a ≡ None
 in_front port load a l = no_address port load a (ap (λ b. b && nat_lt a (load.segment.vaddr + load.segment.mem_size)) (le_false load.segment.vaddr a l))
@@ -170,8 +171,8 @@ take_more xs n x there = ap (λ k. take k xs) (add-one n) ∙ at xs n there
     at (y ∷ ys) (suc n) e = ap (λ l. y ∷ l) (at ys n e)
 
 -- one segment further in a program
-pub segments_more : (to : List Range) (file : List ℕ) (segments : List Segment) (n : ℕ) (s : Segment) → slice_get segments n ≡ Some s → program_loads to file (take (n + 1) segments) ≡ program_loads to file (take n segments) ++ record { map = to; file = file; segment = s } ∷ []
-segments_more to file segments n s there = ap (program_loads to file) (take_more segments n s there) ∙ map-append _ (take n segments) (s ∷ [])
+pub segments_more : (way : Way) (file : List ℕ) (segments : List Segment) (n : ℕ) (s : Segment) → slice_get segments n ≡ Some s → program_loads way file (take (n + 1) segments) ≡ program_loads way file (take n segments) ++ record { way = way; file = file; segment = s } ∷ []
+segments_more way file segments n s there = ap (program_loads way file) (take_more segments n s there) ∙ map-append _ (take n segments) (s ∷ [])
 
 append_none : {A : Type 0} (xs : List A) → xs ++ [] ≡ xs
 append_none [] = refl
@@ -182,16 +183,19 @@ append_through [] ys zs = refl
 append_through (x ∷ xs) ys zs = ap (λ l. x ∷ l) (append_through xs ys zs)
 
 -- one program further
-pub programs_more : (maps : List (List Range)) (images : List Image) (n : ℕ) (to : List Range) (image : Image) → slice_get maps n ≡ Some to → slice_get images n ≡ Some image → loads_of (take (n + 1) maps) (take (n + 1) images) ≡ loads_of (take n maps) (take n images) ++ program_loads to image.file image.segments
-programs_more maps images n to image here there = ap (λ k. loads_of (take k maps) (take k images)) (add-one n) ∙ at maps images n here there
+pub programs_more : (caches : List CacheMap) (maps : List (List Range)) (images : List Image) (n : ℕ) (to : List Range) (image : Image) → slice_get maps n ≡ Some to → slice_get images n ≡ Some image → loads_of caches (take (n + 1) maps) (take (n + 1) images) ≡ loads_of caches (take n maps) (take n images) ++ program_loads (record { map = to; caches = caches }) image.file image.segments
+programs_more caches maps images n to image here there = ap (λ k. loads_of caches (take k maps) (take k images)) (add-one n) ∙ at maps images n here there
   where
-    at : (maps : List (List Range)) (images : List Image) (n : ℕ) → slice_get maps n ≡ Some to → slice_get images n ≡ Some image → loads_of (take (suc n) maps) (take (suc n) images) ≡ loads_of (take n maps) (take n images) ++ program_loads to image.file image.segments
+    loads : List Range → Image → List Load
+    loads m i = program_loads (record { map = m; caches = caches }) i.file i.segments
+
+    at : (maps : List (List Range)) (images : List Image) (n : ℕ) → slice_get maps n ≡ Some to → slice_get images n ≡ Some image → loads_of caches (take (suc n) maps) (take (suc n) images) ≡ loads_of caches (take n maps) (take n images) ++ loads to image
     at [] images n e f = absurd (cc)
     at (m ∷ ms) [] n e f = absurd (cc)
     at (m ∷ ms) (i ∷ is) zero e f =
         (let map_is : m ≡ to = cc in
         let image_is : i ≡ image = cc in
-        append_none (program_loads m i.file i.segments) ∙ ap (λ x. program_loads x i.file i.segments) map_is ∙ ap (λ (x : Image). program_loads to x.file x.segments) image_is)
+        append_none (loads m i) ∙ ap (λ x. loads x i) map_is ∙ ap (loads to) image_is)
     at (m ∷ ms) (i ∷ is) (suc n) e f =
-        ap (λ l. program_loads m i.file i.segments ++ l) (at ms is n e f)
-        ∙ sym (append_through (program_loads m i.file i.segments) (loads_of (take n ms) (take n is)) (program_loads to image.file image.segments))
+        ap (λ l. loads m i ++ l) (at ms is n e f)
+        ∙ sym (append_through (loads m i) (loads_of caches (take n ms) (take n is)) (loads to image))

@@ -8,7 +8,7 @@ abbrev pub field_names : PartKeys → List (List ℕ)
 field_names (Relay to start) = codes "ended" ∷ codes "holds" ∷ codes "sent" ∷ []
 field_names (Agent map base span count window gap start mode draw) = codes "answered" ∷ codes "issued" ∷ codes "next" ∷ codes "sum" ∷ []
 field_names (Memory base size latency depth words) = codes "queue" ∷ codes "served" ∷ []
-field_names (Cache map line sets ways) = codes "hits" ∷ codes "misses" ∷ codes "phase" ∷ []
+field_names (Cache map line sets ways misses) = codes "hits" ∷ codes "misses" ∷ codes "pending" ∷ codes "phase" ∷ []
 field_names (Core inst_map data_map pc) =
     codes "cause" ∷ codes "pc" ∷ codes "phase" ∷ codes "retired"
     ∷ codes "x0" ∷ codes "x1" ∷ codes "x2" ∷ codes "x3" ∷ codes "x4" ∷ codes "x5" ∷ codes "x6" ∷ codes "x7"

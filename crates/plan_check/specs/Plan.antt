@@ -12,6 +12,7 @@ use Rattle.traffic_parts.specs.Relay as relay
 use Rattle.traffic_parts.specs.Agent as agent
 use Rattle.mem_ctrl.specs.Memory as memory
 use Rattle.rv_core.specs.Core as core
+use Rattle.cache_comp.specs.Cache as cache
 use Rattle.direct_link.specs.Direct as direct
 use Rattle.part_kind.specs.declared.part.Part.{Part}
 use Rattle.part_kind.specs.declared.part.Part.TheVariants as parts
@@ -23,6 +24,7 @@ use Rattle.plan_rules.specs.Text.{◌>>=◌, part_no, first_port, port_numbers, 
 use Rattle.plan_rules.specs.Rules.{link_of}
 use Rattle.plan_check.specs.Fields.{field_names}
 use Rattle.plan_check.specs.Maps.{port_to, map_of}
+use Rattle.plan_check.specs.Caches.{all_caches, tops_of}
 use Rattle.plan_check.specs.Programs.{all_loads, opening_bytes, first_pc}
 
 -- 0, 1, .. up to and without n
@@ -34,21 +36,21 @@ up_to (suc n) = up_to n ++ n ∷ []
 abbrev pub second_port : PlanTables → ℕ → PortNo
 second_port text i = record { 0 = first_port text i + 1 }
 
--- the part of a number as its kind opens it, none for a kind without parts; no map has a cache among its targets yet
-abbrev pub part_with : PlanTables → List Image → ℕ → PartTable → PartKeys → Option Part
-part_with text images i table (keys.Relay to start) = Some (parts.Relay (relay.opening (record { actor = record { 0 = i }; period = table.period; io = port_to text (Some i); to = port_to text (part_no text to); start = start })))
-part_with text images i table (keys.Agent m base span count window gap start mode draw) = Some (parts.Agent (agent.agent_opening (record { actor = record { 0 = i }; period = table.period; io = port_to text (Some i); map = map_of text m; base = base; span = span; count = count; window = window; gap = gap; start = start; mode = mode; draw = draw })))
-part_with text images i table (keys.Memory base size latency depth words) = Some (parts.Memory (memory.opening (record { actor = record { 0 = i }; period = table.period; top = port_to text (Some i); base = base; size = size; latency = latency; depth = depth; bytes = opening_bytes (all_loads text images) (port_to text (Some i)) base size words })))
-part_with text images i table (keys.Cache m line sets ways) = None
-part_with text images i table (keys.Core inst_map data_map pc) = Some (parts.Core (core.opening (record { actor = record { 0 = i }; period = table.period; inst_port = port_to text (Some i); data_port = second_port text i; inst_map = map_of text inst_map; data_map = map_of text data_map; caches = []; pc = first_pc text images table.name pc })))
+-- the part of a number as its kind opens it
+abbrev pub part_with : PlanTables → List Image → ℕ → PartTable → PartKeys → Part
+part_with text images i table (keys.Relay to start) = parts.Relay (relay.opening (record { actor = record { 0 = i }; period = table.period; io = port_to text (Some i); to = port_to text (part_no text to); start = start }))
+part_with text images i table (keys.Agent m base span count window gap start mode draw) = parts.Agent (agent.agent_opening (record { actor = record { 0 = i }; period = table.period; io = port_to text (Some i); map = map_of text m; base = base; span = span; count = count; window = window; gap = gap; start = start; mode = mode; draw = draw }))
+part_with text images i table (keys.Memory base size latency depth words) = parts.Memory (memory.opening (record { actor = record { 0 = i }; period = table.period; top = port_to text (Some i); base = base; size = size; latency = latency; depth = depth; bytes = opening_bytes (all_loads text images) (port_to text (Some i)) base size words }))
+part_with text images i table (keys.Cache m line sets ways misses) = parts.Cache (cache.opening (record { actor = record { 0 = i }; period = table.period; top = port_to text (Some i); bottom = second_port text i; map = map_of text m; caches = tops_of (all_caches text) (map_of text m); line = line; sets = sets; ways = ways; misses = misses }))
+part_with text images i table (keys.Core inst_map data_map pc) = parts.Core (core.opening (record { actor = record { 0 = i }; period = table.period; inst_port = port_to text (Some i); data_port = second_port text i; inst_map = map_of text inst_map; data_map = map_of text data_map; caches = tops_of (all_caches text) (map_of text data_map); pc = first_pc text images table.name pc }))
 
-unfoldable pub part_of : PlanTables → List Image → ℕ → PartTable → Option Part
+unfoldable pub part_of : PlanTables → List Image → ℕ → PartTable → Part
 part_of text images i table = part_with text images i table table.kind
 
 -- the first so many parts
 abbrev pub parts_to : PlanTables → List Image → ℕ → List Part
 parts_to text images zero = []
-parts_to text images (suc n) = parts_to text images n ++ option_to_list (slice_get text.parts n >>= part_of text images n)
+parts_to text images (suc n) = parts_to text images n ++ option_to_list (slice_get text.parts n >>= (λ table. Some (part_of text images n table)))
 
 -- the ports of a link by their numbers
 abbrev pub own_of_link : List (Option ℕ) → List ℕ

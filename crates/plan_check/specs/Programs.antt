@@ -1,5 +1,5 @@
 -- Programs in a plan: where their bytes go, and the first segment that has a byte without a place.
-use Rattle.std.specs.Prelude.{ℕ, ◌+◌, ◌-◌, nat_le, nat_lt, ◌==◌, Bool, false, ◌&&◌, if◌then◌else◌, List, [], ◌∷◌, ◌++◌, map, length, replicate, flat_map, find, slice_get, slice_index, Option, Some, None, option_map, unwrap_or}
+use Rattle.std.specs.Prelude.{ℕ, ◌+◌, ◌-◌, nat_le, nat_lt, Bool, ◌&&◌, if◌then◌else◌, List, [], ◌∷◌, ◌++◌, map, length, replicate, flat_map, find, slice_get, slice_index, Option, Some, None, option_map, unwrap_or}
 use Rattle.std.specs.Option.{option_or}
 use Rattle.std.specs.Int.{w32, to_le_bytes}
 use Rattle.sim_base.specs.declared.numbers.PortNo.{PortNo}
@@ -7,12 +7,13 @@ use Rattle.sim_config.specs.Tables.{PlanTables, RangeTable, ProgramTable}
 use Rattle.sim_config.specs.declared.part_text.PartKeys.{PartKeys}
 use Rattle.sim_config.specs.declared.part_text.PartKeys.TheVariants.{Core}
 use Rattle.addr_map.specs.declared.range.Range.{Range}
-use Rattle.addr_map.specs.Range.{target_at}
 use Rattle.elf_load.specs.declared.image.Image.{Image}
 use Rattle.elf_load.specs.declared.segment.Segment.{Segment}
 use Rattle.plan_rules.specs.Text.{◌>>=◌, part_no, program_no, ranges_by}
 use Rattle.plan_rules.specs.Rules.{is_uncovered, keys_of}
 use Rattle.plan_check.specs.Maps.{range_of}
+use Rattle.plan_check.specs.Caches.{Way, all_caches, end_of, is_at}
+use Rattle.plan_check.specs.declared.caches.CacheMap.{CacheMap}
 use Rattle.plan_check.specs.declared.unmapped.Unmapped.{Unmapped}
 
 -- the ranges of a core's data map, none for a part of another kind
@@ -28,25 +29,25 @@ data_ranges text program = data_ranges_of text (keys_of text (part_no text progr
 abbrev pub data_map : PlanTables → ProgramTable → List Range
 data_map text program = map (range_of text) (data_ranges text program)
 
--- a segment, the file that has its bytes, and the map that says where they go
+-- a segment, the file that has its bytes, and the way by which they come to memories
 pub record Load : Type 0 where
-  pub map : List Range
+  pub way : Way
   pub file : List ℕ
   pub segment : Segment
 
 -- the segments of a program, in the order of their headers
-abbrev pub program_loads : List Range → List ℕ → List Segment → List Load
-program_loads to file segments = map (λ s. record { map = to; file = file; segment = s }) segments
+abbrev pub program_loads : Way → List ℕ → List Segment → List Load
+program_loads way file segments = map (λ s. record { way = way; file = file; segment = s }) segments
 
--- the segments of these programs, one program after the other
-abbrev pub loads_of : List (List Range) → List Image → List Load
-loads_of [] images = []
-loads_of (to ∷ maps) [] = []
-loads_of (to ∷ maps) (image ∷ images) = program_loads to image.file image.segments ++ loads_of maps images
+-- the segments of the programs of cores with these data maps, one program after the other
+abbrev pub loads_of : List CacheMap → List (List Range) → List Image → List Load
+loads_of caches [] images = []
+loads_of caches (to ∷ maps) [] = []
+loads_of caches (to ∷ maps) (image ∷ images) = program_loads (record { map = to; caches = caches }) image.file image.segments ++ loads_of caches maps images
 
 -- the segments of all programs
 abbrev pub all_loads : PlanTables → List Image → List Load
-all_loads text images = loads_of (map (data_map text) text.programs) images
+all_loads text images = loads_of (all_caches text) (map (data_map text) text.programs) images
 
 -- an address is one of a segment's
 abbrev pub has_address : Segment → ℕ → Bool
@@ -56,15 +57,10 @@ has_address s addr = nat_le s.vaddr addr && nat_lt addr (s.vaddr + s.mem_size)
 abbrev pub segment_byte : List ℕ → Segment → ℕ → ℕ
 segment_byte file s addr = if nat_lt (addr - s.vaddr) s.file_size then slice_index file (s.from + (addr - s.vaddr)) else 0
 
--- it is this port
-abbrev pub is_at : PortNo → Option PortNo → Bool
-is_at port None = false
-is_at port (Some target) = target.0 == port.0
-
--- the byte that a segment puts at an address of the memory of a port: none where it has no such address, or where the map leads
--- to another port
+-- the byte that a segment puts at an address of the memory of a port: none where it has no such address, or where the address
+-- ends up at another port
 abbrev pub byte_for : PortNo → Load → ℕ → Option ℕ
-byte_for port load addr = if has_address load.segment addr && is_at port (target_at load.map addr) then Some (segment_byte load.file load.segment addr) else None
+byte_for port load addr = if has_address load.segment addr && is_at port (end_of load.way addr) then Some (segment_byte load.file load.segment addr) else None
 
 -- the byte of the last segment that puts one there
 abbrev pub last_byte : PortNo → List Load → ℕ → Option ℕ

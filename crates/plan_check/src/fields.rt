@@ -16,7 +16,7 @@ pub fn field_names(keys: &PartKeys) -> &'static [&'static str]
         PartKeys::Relay { .. } => &["ended", "holds", "sent"],
         PartKeys::Agent { .. } => &["answered", "issued", "next", "sum"],
         PartKeys::Memory { .. } => &["queue", "served"],
-        PartKeys::Cache { .. } => &["hits", "misses", "phase"],
+        PartKeys::Cache { .. } => &["hits", "misses", "pending", "phase"],
         PartKeys::Core { .. } => &[
             "cause", "pc", "phase", "retired", "x0", "x1", "x2", "x3", "x4", "x5", "x6", "x7",
             "x8", "x9", "x10", "x11", "x12", "x13", "x14", "x15", "x16", "x17", "x18", "x19",

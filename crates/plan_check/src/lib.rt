@@ -2,6 +2,7 @@
 #![tactic(auto)]
 
 mod bytes;
+mod caches;
 mod fields;
 mod links;
 mod load;

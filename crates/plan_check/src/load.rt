@@ -1,15 +1,19 @@
 ghost use Rattle.std.specs.Prelude.{◌≡◌, true, Some};
+ghost use Rattle.plan_check.specs.Caches.{end_of};
 ghost use Rattle.plan_check.specs.Programs as spec;
 
+use crate::caches::{CacheMap, end_from, is_at};
 use addr_map::AddrMap;
 use elf_load::Segment;
 use sim_base::PortNo;
 use std::marker::Model;
 
-/// A segment, the file that has its bytes, and the map that says where they go.
+/// A segment, the file that has its bytes, and the way by which they come to memories: the map that they go by first, and the caches
+/// through which they then go.
 #[derive(Drop)]
 pub(crate) struct Load<'a> {
     pub map: &'a AddrMap,
+    pub caches: &'a [CacheMap],
     pub file: &'a [u8],
     pub segment: Segment,
 }
@@ -21,7 +25,7 @@ impl<'a> Model for Load<'a> {
 
     ghost Value = { Load };
 
-    ghost view = { λ l. record { map = l.map.now; file = l.file.now; segment = l.segment } };
+    ghost view = { λ l. record { way = record { map = l.map.now; caches = l.caches.now }; file = l.file.now; segment = l.segment } };
 
     ghost invariant = { λ l. IsSound (length l.file.now) l.segment };
 }
@@ -49,24 +53,21 @@ impl<'a> Load<'a> {
         }
     }
 
+    /// The port at which an address ends up, None where the map has none for it.
+    fn end(&self, addr: u32) -> Option<PortNo>
+        ensures { result ≡ end_of self.now.way addr }
+    {
+        end_from(self.caches, addr, self.map.find(addr))
+    }
+
     /// The byte that it puts at an address of the memory of a port, None where it puts none there.
     pub(crate) fn byte_for(&self, port: PortNo, addr: u32) -> Option<u8>
         ensures { result ≡ spec.byte_for port self.now addr }
     {
-        if self.has_address(addr) && is_at(port, self.map.find(addr)) {
+        if self.has_address(addr) && is_at(port, self.end(addr)) {
             Some(self.byte(addr))
         } else {
             None
         }
-    }
-}
-
-/// Whether a target is this port.
-fn is_at(port: PortNo, target: Option<PortNo>) -> bool
-    ensures { result ≡ spec.is_at port target }
-{
-    match target {
-        Some(target) => target.0 == port.0,
-        None => false,
     }
 }

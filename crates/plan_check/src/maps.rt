@@ -6,7 +6,7 @@ ghost use Rattle.plan_rules.specs.Text.{range_targets, ranges_at};
 ghost use Rattle.plan_check.specs.Maps.{port_to, map_of, range_of};
 ghost use Rattle.plan_check.specs.Plan.{second_port};
 
-use addr_map::{Range, Ranges, Targets};
+use addr_map::{AddrMap, Range, Ranges, Targets};
 use plan_rules::Numbered;
 use sim_base::{Name, OutOfMemory, PortNo};
 use sim_config::RangeText;
@@ -86,4 +86,13 @@ pub(crate) fn map_of(alloc: Global, plan: &Numbered, name: &Name) -> Result<Rang
         Some(no) => Ok(Ranges::of(ranges_of(alloc, plan, no)?)),
         None => Ok(Ranges::of(Vec::new(alloc))),
     }
+}
+
+/// The map of a name, which finds the port of an address.
+pub(crate) fn addr_map(alloc: Global, plan: &Numbered, name: &Name) -> Result<AddrMap, OutOfMemory>
+    requires { first_broken plan.now ≡ None }
+    ensures { IfOk result (λ map. map ≡ map_of plan.now name.now) }
+{
+    let ranges = map_of(alloc, plan, name)?;
+    AddrMap::open(alloc, ranges.items())
 }

@@ -3,6 +3,7 @@ ghost use Rattle.std.specs.Prelude.{◌≡◌, ◌+◌, ◌*◌, ◌^◌, ◌<�
 ghost use Rattle.plan_check.specs.Programs as spec;
 
 use crate::bytes::word_bytes;
+use crate::caches::CacheMap;
 use crate::load::Load;
 use crate::programs::Programs;
 use addr_map::AddrMap;
@@ -37,15 +38,24 @@ fn place_load(bytes: &mut [u8], base: u32, port: PortNo, load: &Load)
 }
 
 /// Puts the bytes of a program into the memory of a port, the segments in their order.
-fn place_program(bytes: &mut [u8], base: u32, port: PortNo, map: &AddrMap, image: &Image)
+fn place_program(
+    bytes: &mut [u8],
+    base: u32,
+    port: PortNo,
+    map: &AddrMap,
+    caches: &[CacheMap],
+    image: &Image,
+)
     requires { base + length bytes.old ≤ 2 ^ 32 }
     ensures { bytes.new ≡ spec.written_over base
-        (spec.last_byte port (spec.program_loads map.now image.now.file image.now.segments)) bytes.old }
+        (spec.last_byte port (spec.program_loads (record { map = map.now; caches = caches.now })
+        image.now.file image.now.segments)) bytes.old }
 {
     let file = image.file.items();
     for segment in image.segments.items() {
         let load = Load {
             map,
+            caches,
             file,
             segment: *segment,
         };
@@ -59,10 +69,18 @@ fn place_all(bytes: &mut [u8], base: u32, port: PortNo, programs: &Programs)
     requires count { length programs.now.images.now ≡ length programs.now.maps.now }
 
     ensures { bytes.new ≡ spec.written_over base
-        (spec.last_byte port (spec.loads_of programs.now.maps.now programs.now.images.now)) bytes.old }
+        (spec.last_byte port (spec.loads_of programs.now.caches.now programs.now.maps.now programs.now.images.now)) bytes.old }
 {
     for no in 0..programs.images.len() {
-        place_program(bytes, base, port, &programs.maps[no], &programs.images[no]);
+        let map = &programs.maps[no];
+        place_program(
+            bytes,
+            base,
+            port,
+            map,
+            programs.caches,
+            &programs.images[no],
+        );
     }
 }
 
@@ -80,7 +98,7 @@ pub(crate) fn opening_bytes(
     requires count { length programs.now.images.now ≡ length programs.now.maps.now }
 
     ensures bytes { IfOk result (λ bytes. bytes
-        ≡ spec.opening_bytes (spec.loads_of programs.now.maps.now programs.now.images.now) port base size words.now) }
+        ≡ spec.opening_bytes (spec.loads_of programs.now.caches.now programs.now.maps.now programs.now.images.now) port base size words.now) }
     ensures count { IfOk result (λ bytes. length bytes ≡ size) }
 {
     let mut bytes = word_bytes(alloc, size, words)?;

@@ -2,7 +2,8 @@ ghost use Rattle.std.specs.Prelude.{◌≡◌, None, map, IfOk};
 ghost use Rattle.plan_rules.specs.First.{first_broken};
 ghost use Rattle.plan_check.specs.Programs as spec;
 
-use crate::maps::map_of;
+use crate::caches::CacheMap;
+use crate::maps::addr_map;
 use addr_map::AddrMap;
 use elf_load::Image;
 use plan_rules::Numbered;
@@ -10,9 +11,11 @@ use sim_base::{Name, OutOfMemory};
 use sim_config::{PartKeys, ProgramText};
 use std::alloc::Global;
 
-/// The programs of a plan: the map by which the core of each finds data, and the program itself, in order.
+/// The programs of a plan: the map by which the core of each finds data, and the program itself, in order; and the caches through
+/// which such a map may lead, in the order of the file.
 #[derive(Drop)]
 pub(crate) struct Programs<'a> {
+    pub caches: &'a [CacheMap],
     pub maps: &'a [AddrMap],
     pub images: &'a [Image],
 }
@@ -23,10 +26,7 @@ fn data_map(alloc: Global, plan: &Numbered, program: &ProgramText) -> Result<Add
     ensures { IfOk result (λ m. m ≡ spec.data_map plan.now program.now) }
 {
     match plan.keys_of(plan.part_no(&program.core)) {
-        Some(PartKeys::Core { data_map, .. }) => {
-            let ranges = map_of(alloc, plan, data_map)?;
-            AddrMap::open(alloc, ranges.items())
-        }
+        Some(PartKeys::Core { data_map, .. }) => addr_map(alloc, plan, data_map),
         _ => AddrMap::open(alloc, &[]),
     }
 }

@@ -8,6 +8,7 @@ ghost use Rattle.plan_rules.specs.First.{first_broken};
 ghost use Rattle.plan_check.specs.Programs.{first_unmapped};
 ghost use Rattle.plan_check.specs.Plan.{parts_to, plan_of};
 
+use crate::caches::cache_maps;
 use crate::fields::all_fields;
 use crate::links::all_links;
 use crate::names::{link_names, part_names};
@@ -35,8 +36,10 @@ fn loaded_parts(
     ensures parts { IfOk result (λ v. v.items ≡ parts_to numbered.now images.now (length numbered.now.parts)) }
     ensures own { IfOk result (λ v. map part_own v.items ≡ map (λ (p : PartTable). port_count p.kind) numbered.now.parts) }
 {
+    let caches = cache_maps(alloc, numbered)?;
     let maps = data_maps(alloc, numbered)?;
     let programs = Programs {
+        caches: &caches,
         maps: &maps,
         images,
     };

@@ -18,7 +18,7 @@ abbrev pub port_words : PartKeys → List PortWord
 port_words (Relay to start) = Io ∷ []
 port_words (Agent map base span count window gap start mode draw) = Io ∷ []
 port_words (Memory base size latency depth words) = Top ∷ []
-port_words (Cache map line sets ways) = Top ∷ Bottom ∷ []
+port_words (Cache map line sets ways misses) = Top ∷ Bottom ∷ []
 port_words (Core inst_map data_map pc) = Inst ∷ Data ∷ []
 
 -- how many ports they are
@@ -35,7 +35,7 @@ abbrev pub first_map : PartKeys → Option (List ℕ)
 first_map (Relay to start) = None
 first_map (Agent map base span count window gap start mode draw) = Some map
 first_map (Memory base size latency depth words) = None
-first_map (Cache map line sets ways) = None
+first_map (Cache map line sets ways misses) = None
 first_map (Core inst_map data_map pc) = Some inst_map
 
 -- the map by which it sends from its second port
@@ -43,7 +43,7 @@ abbrev pub second_map : PartKeys → Option (List ℕ)
 second_map (Relay to start) = None
 second_map (Agent map base span count window gap start mode draw) = None
 second_map (Memory base size latency depth words) = None
-second_map (Cache map line sets ways) = Some map
+second_map (Cache map line sets ways misses) = Some map
 second_map (Core inst_map data_map pc) = Some data_map
 
 -- how many bytes it holds as a memory

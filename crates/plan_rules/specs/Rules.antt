@@ -77,7 +77,7 @@ is_agent (Some (keys.Agent map base span count window gap start mode draw)) = tr
 is_agent _ = false
 
 abbrev pub is_cache : Option PartKeys → Bool
-is_cache (Some (keys.Cache map line sets ways)) = true
+is_cache (Some (keys.Cache map line sets ways misses)) = true
 is_cache _ = false
 
 abbrev pub is_core : Option PartKeys → Bool
@@ -87,7 +87,7 @@ is_core _ = false
 -- a range may lead to a memory, a cache or an agent
 abbrev pub answers_ranges : Option PartKeys → Bool
 answers_ranges (Some (keys.Memory base size latency depth words)) = true
-answers_ranges (Some (keys.Cache map line sets ways)) = true
+answers_ranges (Some (keys.Cache map line sets ways misses)) = true
 answers_ranges (Some (keys.Agent map base span count window gap start mode draw)) = true
 answers_ranges _ = false
 
@@ -114,7 +114,7 @@ is_above text i target = is_agent (keys_of text target) || is_cache (keys_of tex
 
 abbrev pub has_wrong_target : PlanTables → ℕ → PartKeys → Bool
 has_wrong_target text i (keys.Relay to start) = not (is_relay (keys_of text (part_no text to)))
-has_wrong_target text i (keys.Cache map line sets ways) = leads_to text (is_above text i) (Some map)
+has_wrong_target text i (keys.Cache map line sets ways misses) = leads_to text (is_above text i) (Some map)
 has_wrong_target text i (keys.Core inst_map data_map pc) = leads_to text (leads_to_agent text) (Some inst_map) || leads_to text (leads_to_agent text) (Some data_map)
 has_wrong_target text i _ = false
 
@@ -190,7 +190,7 @@ is_uncovered ranges first count = some_below count (λ k. not (list_any (holds (
 -- a range is not within the memory, or not covered by the cache's map, that it leads to
 abbrev pub is_outside : PlanTables → RangeTable → Option PartKeys → Bool
 is_outside text range (Some (keys.Memory base size latency depth words)) = not (nat_le base range.base && nat_le (range.base + range.size) (base + size))
-is_outside text range (Some (keys.Cache map line sets ways)) = is_uncovered (ranges_by text map) range.base range.size
+is_outside text range (Some (keys.Cache map line sets ways misses)) = is_uncovered (ranges_by text map) range.base range.size
 is_outside text range _ = false
 
 abbrev pub asks_outside : PlanTables → PartKeys → Bool
@@ -205,11 +205,11 @@ map_outside text _ = false
 
 -- a cache with a shorter line than this
 abbrev pub is_shorter : ℕ → Option PartKeys → Bool
-is_shorter line (Some (keys.Cache map below sets ways)) = nat_lt below line
+is_shorter line (Some (keys.Cache map below sets ways misses)) = nat_lt below line
 is_shorter line _ = false
 
 abbrev pub has_longer_line : PlanTables → PartKeys → Bool
-has_longer_line text (keys.Cache map line sets ways) = leads_to text (λ target. is_shorter line (keys_of text target)) (Some map)
+has_longer_line text (keys.Cache map line sets ways misses) = leads_to text (λ target. is_shorter line (keys_of text target)) (Some map)
 has_longer_line text _ = false
 
 -- a cache's map leads to a cache with a shorter line

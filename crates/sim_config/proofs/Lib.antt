@@ -4,4 +4,3 @@ pub mod Fronts
 pub mod ItemLaws
 pub mod Defaults
 pub mod Rows
-pub mod BuiltKinds

@@ -1,6 +1,6 @@
 -- The rows of the keys, read from the constants of the code.
 use Rattle.std.specs.Prelude.{refl}
-use Rattle.sim_config.specs.Rows.{TopRows, MapRows, PartRows, AgentRows, MemoryRows, CacheRows, CoreRows, LinkRows, WordRows}
+use Rattle.sim_config.specs.Rows.{TopRows, MapRows, PartRows, AgentRows, MemoryRows, CacheRows, CoreRows, LinkRows, WordRows, CacheWordRows}
 
 pub top_rows : TopRows
 top_rows = record { version = refl; until = refl; maps = refl; parts = refl; links = refl; programs = refl }
@@ -18,7 +18,7 @@ pub memory_rows : MemoryRows
 memory_rows = record { size = refl; latency = refl; depth = refl; words = refl; word_values = refl }
 
 pub cache_rows : CacheRows
-cache_rows = record { line = refl; sets = refl; ways = refl }
+cache_rows = record { line = refl; sets = refl; ways = refl; misses = refl }
 
 pub core_rows : CoreRows
 core_rows = record { pc = refl }
@@ -27,4 +27,7 @@ pub link_rows : LinkRows
 link_rows = record { ports = refl }
 
 pub word_rows : WordRows
-word_rows = record { top = refl; map = refl; range = refl; part = refl; relay = refl; agent = refl; memory = refl; cache = refl; core = refl; link = refl; direct = refl; program = refl }
+word_rows = record { top = refl; map = refl; range = refl; part = refl; relay = λ _. refl; agent = λ _. refl; memory = λ _. refl; core = λ _. refl; link = refl; direct = refl; program = refl }
+
+pub cache_word_rows : CacheWordRows
+cache_word_rows = record { one = refl; two = refl }

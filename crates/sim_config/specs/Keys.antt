@@ -1,5 +1,5 @@
 -- The keys of each table: their words, the numbers that they have, and what stands where one is left out.
-use Rattle.std.specs.Prelude.{◌≡◌, ℕ, ◌%◌, ◌≤◌, ◌==◌, ◌&&◌, nat_le, min, Bool, true, IsTrue, List, [], ◌∷◌, Option, Some, None, codes, if◌then◌else◌}
+use Rattle.std.specs.Prelude.{◌≡◌, ℕ, ◌%◌, ◌≤◌, ◌==◌, ◌&&◌, nat_le, min, Bool, true, IsTrue, List, [], ◌∷◌, Option, codes, if◌then◌else◌}
 use Rattle.std.specs.Int.{is_power_of_two}
 use Rattle.sim_config.specs.declared.keys.Allowed.{Allowed}
 use Rattle.sim_config.specs.declared.keys.Shape.{Shape}
@@ -7,13 +7,14 @@ use Rattle.sim_config.specs.declared.keys.Shape.TheVariants.{Any, MultipleOf4, M
 use Rattle.sim_config.specs.declared.keys.NumberKey.{NumberKey}
 use Rattle.sim_config.specs.declared.keys.ListKey.{ListKey}
 use Rattle.sim_config.specs.declared.keys.KeyWord.{KeyWord}
-use Rattle.sim_config.specs.declared.keys.KeyWord.TheVariants.{Version, Until, Period, Base, Size, Granule, Buffer, Start, Span, Count, Window, Gap, Draw, Latency, Depth, Line, Sets, Ways, Pc, Map, Part, Link, Program, Range, To, Words, Ports}
-use Rattle.sim_config.specs.declared.keys.TheConstants.{ADDRESS_LIMIT, AGENT_BASE, BASE, BUFFER, COUNT, DEPTH, DRAW, GAP, GRANULE, LATENCY, LINE, LINKS, MAPS, MEMORY_SIZE, PARTS, PC, PERIOD, PORTS, PROGRAMS, RANGES, SETS, SIZE, SPAN, START, TO, TOKEN, UNTIL, VERSION, WAYS, WINDOW, WORDS, WORD_VALUES}
+use Rattle.sim_config.specs.declared.keys.KeyWord.TheVariants.{Version as VersionWord, Until, Period, Base, Size, Granule, Buffer, Start, Span, Count, Window, Gap, Draw, Latency, Depth, Line, Sets, Ways, Misses, Pc, Map, Part, Link, Program, Range, To, Words, Ports}
+use Rattle.sim_config.specs.declared.keys.TheConstants.{ADDRESS_LIMIT, AGENT_BASE, BASE, BUFFER, COUNT, DEPTH, DRAW, GAP, GRANULE, LATENCY, LINE, LINKS, MAPS, MEMORY_SIZE, MISSES, PARTS, PC, PERIOD, PORTS, PROGRAMS, RANGES, SETS, SIZE, SPAN, START, TO, TOKEN, UNTIL, VERSION, WAYS, WINDOW, WORDS, WORD_VALUES}
 use Rattle.sim_config.specs.declared.kinds.PartKind.{PartKind}
 use Rattle.sim_config.specs.declared.kinds.PartKind.TheVariants.{Relay, Agent, Memory, Cache, Core}
-use Rattle.sim_config.specs.declared.kinds.TheConstants.{CACHES_ARE_BUILT, CORES_ARE_BUILT}
 use Rattle.sim_config.specs.declared.kinds.LinkKind.{LinkKind}
 use Rattle.sim_config.specs.declared.kinds.LinkKind.TheVariants.{Direct}
+use Rattle.sim_config.specs.declared.version.Version.{Version}
+use Rattle.sim_config.specs.declared.version.Version.TheVariants.{One, Two}
 
 abbrev pub has_shape : Shape → ℕ → Bool
 has_shape Any n = true
@@ -43,7 +44,7 @@ up_to n a = record a { greatest = min a.greatest n }
 
 -- the word of a key
 abbrev pub key_word : KeyWord → List ℕ
-key_word Version = codes "version"
+key_word VersionWord = codes "version"
 key_word Until = codes "until"
 key_word Period = codes "period"
 key_word Base = codes "base"
@@ -61,6 +62,7 @@ key_word Depth = codes "depth"
 key_word Line = codes "line"
 key_word Sets = codes "sets"
 key_word Ways = codes "ways"
+key_word Misses = codes "misses"
 key_word Pc = codes "pc"
 key_word Map = codes "map"
 key_word Part = codes "part"
@@ -104,6 +106,10 @@ address_limit = ADDRESS_LIMIT
 -- the document
 abbrev pub version : NumberRow
 version = number_row VERSION
+
+-- what a number of the key stands for
+abbrev pub version_of : ℕ → Version
+version_of n = if n == 1 then One else Two
 
 abbrev pub until : NumberRow
 until = number_row UNTIL
@@ -221,6 +227,9 @@ sets = number_row SETS
 abbrev pub ways : NumberRow
 ways = number_row WAYS
 
+abbrev pub misses : NumberRow
+misses = number_row MISSES
+
 -- a core
 abbrev pub inst : List ℕ
 inst = codes "inst"
@@ -234,24 +243,16 @@ pc = number_row PC
 abbrev pub part_words : List (List ℕ)
 part_words = name ∷ kind ∷ period.word ∷ buffer.word ∷ []
 
-abbrev pub part_kind_words : PartKind → List (List ℕ)
-part_kind_words Relay = target ∷ token.word ∷ []
-part_kind_words Agent = address_map ∷ agent_base.word ∷ span.word ∷ count.word ∷ window.word ∷ gap.word ∷ start.word ∷ mode ∷ draw.word ∷ []
-part_kind_words Memory = base.word ∷ memory_size.word ∷ latency.word ∷ depth.word ∷ words.word ∷ []
-part_kind_words Cache = address_map ∷ line.word ∷ sets.word ∷ ways.word ∷ []
-part_kind_words Core = inst ∷ data_map ∷ pc.word ∷ []
+abbrev pub cache_words : Version → List (List ℕ)
+cache_words One = address_map ∷ line.word ∷ sets.word ∷ ways.word ∷ []
+cache_words Two = address_map ∷ line.word ∷ sets.word ∷ ways.word ∷ misses.word ∷ []
 
--- whether there are parts of a kind yet
-abbrev pub is_built : PartKind → Bool
-is_built Relay = true
-is_built Agent = true
-is_built Memory = true
-is_built Cache = CACHES_ARE_BUILT
-is_built Core = CORES_ARE_BUILT
-
--- the kind, or none where there are no parts of it yet
-abbrev pub if_built : PartKind → Option PartKind
-if_built kind = if is_built kind then Some kind else None
+abbrev pub part_kind_words : Version → PartKind → List (List ℕ)
+part_kind_words _ Relay = target ∷ token.word ∷ []
+part_kind_words _ Agent = address_map ∷ agent_base.word ∷ span.word ∷ count.word ∷ window.word ∷ gap.word ∷ start.word ∷ mode ∷ draw.word ∷ []
+part_kind_words _ Memory = base.word ∷ memory_size.word ∷ latency.word ∷ depth.word ∷ words.word ∷ []
+part_kind_words v Cache = cache_words v
+part_kind_words _ Core = inst ∷ data_map ∷ pc.word ∷ []
 
 -- a link
 abbrev pub ports : ListRow

@@ -19,6 +19,8 @@ use Rattle.sim_config.specs.declared.part_text.PartKeys.{PartKeys}
 use Rattle.sim_config.specs.declared.part_text.PartKeys.TheVariants as part_keys
 use Rattle.sim_config.specs.declared.link_text.LinkKeys.{LinkKeys}
 use Rattle.sim_config.specs.declared.link_text.LinkKeys.TheVariants as link_keys
+use Rattle.sim_config.specs.declared.version.Version.{Version}
+use Rattle.sim_config.specs.declared.version.Version.TheVariants.{One, Two}
 use Rattle.sim_config.specs.Keys
 use Rattle.sim_config.specs.Tables.{RangeTable, MapTable, PartTable, LinkTable, ProgramTable, PlanTables}
 use Rattle.sim_config.specs.Values.{◌>>=◌, number_at, optional_number_at, number_in, name_in, name_at, choice_at, choice_or, file_at, port_in, list_at, tables_at, known_at}
@@ -50,8 +52,8 @@ part_kind word =
     if bytes_eq word (codes "relay") then Some part_kinds.Relay
     else if bytes_eq word (codes "agent") then Some part_kinds.Agent
     else if bytes_eq word (codes "memory") then Some part_kinds.Memory
-    else if bytes_eq word (codes "cache") then Keys.if_built part_kinds.Cache
-    else if bytes_eq word (codes "core") then Keys.if_built part_kinds.Core
+    else if bytes_eq word (codes "cache") then Some part_kinds.Cache
+    else if bytes_eq word (codes "core") then Some part_kinds.Core
     else None
 
 abbrev pub agent_mode : List ℕ → Option Mode
@@ -89,13 +91,19 @@ memory_at place ms = do
   words ← list_at (number_in Keys.word_values) place (Keys.no_longer_than (size / 4) Keys.words) ms
   Ok (part_keys.Memory base size latency depth words)
 
-unfoldable pub cache_at : TableNo → Members → Result PartKeys ConfigFault
-cache_at place ms = do
+-- how many misses a cache can have under way at once: one in version 1, which has no key for it
+abbrev pub misses_at : Version → TableNo → Members → Result ℕ ConfigFault
+misses_at One place ms = Ok 1
+misses_at Two place ms = number_at place Keys.misses ms
+
+unfoldable pub cache_at : Version → TableNo → Members → Result PartKeys ConfigFault
+cache_at version place ms = do
   map ← name_at place Keys.address_map ms
   line ← number_at place Keys.line ms
   sets ← number_at place Keys.sets ms
   ways ← number_at place Keys.ways ms
-  Ok (part_keys.Cache map line sets ways)
+  misses ← misses_at version place ms
+  Ok (part_keys.Cache map line sets ways misses)
 
 unfoldable pub core_at : TableNo → Members → Result PartKeys ConfigFault
 core_at place ms = do
@@ -105,21 +113,21 @@ core_at place ms = do
   Ok (part_keys.Core inst_map data_map pc)
 
 -- the keys that a kind of part has for itself
-abbrev pub part_keys_at : PartKind → TableNo → Members → Result PartKeys ConfigFault
-part_keys_at part_kinds.Relay = relay_at
-part_keys_at part_kinds.Agent = agent_at
-part_keys_at part_kinds.Memory = memory_at
-part_keys_at part_kinds.Cache = cache_at
-part_keys_at part_kinds.Core = core_at
+abbrev pub part_keys_at : Version → PartKind → TableNo → Members → Result PartKeys ConfigFault
+part_keys_at version part_kinds.Relay = relay_at
+part_keys_at version part_kinds.Agent = agent_at
+part_keys_at version part_kinds.Memory = memory_at
+part_keys_at version part_kinds.Cache = cache_at version
+part_keys_at version part_kinds.Core = core_at
 
-unfoldable pub part_at : ℕ → Members → Result PartTable ConfigFault
-part_at n ms = do
+unfoldable pub part_at : Version → ℕ → Members → Result PartTable ConfigFault
+part_at version n ms = do
   name ← name_at (Part n) Keys.name ms
   kind ← choice_at (Part n) Keys.kind part_kind ms
-  known ← known_at (Part n) (Keys.part_words ++ Keys.part_kind_words kind) ms
+  known ← known_at (Part n) (Keys.part_words ++ Keys.part_kind_words version kind) ms
   period ← number_at (Part n) Keys.period ms
   buffer ← number_at (Part n) Keys.buffer ms
-  keys ← part_keys_at kind (Part n) ms
+  keys ← part_keys_at version kind (Part n) ms
   Ok (record { name = name; period = period; buffer = buffer; kind = keys })
 
 abbrev pub link_kind : List ℕ → Option LinkKind
@@ -144,18 +152,23 @@ program_at n ms = do
   file ← file_at (Program n) Keys.program_file ms
   Ok (record { core = core; file = file })
 
+unfoldable pub version_at : TableNo → Members → Result Version ConfigFault
+version_at place ms = do
+  number ← number_at place Keys.version ms
+  Ok (Keys.version_of number)
+
 -- the plan of a document
 unfoldable pub plan_at : Members → Result PlanTables ConfigFault
 plan_at ms = do
   known ← known_at Top Keys.top_words ms
-  version ← number_at Top Keys.version ms
+  version ← version_at Top ms
   until ← number_at Top Keys.until ms
   map_tables ← tables_at Top Keys.maps ms
   part_tables ← tables_at Top Keys.parts ms
   link_tables ← tables_at Top Keys.links ms
   program_tables ← tables_at Top Keys.programs ms
   maps ← each map_at 0 map_tables
-  parts ← each part_at 0 part_tables
+  parts ← each (part_at version) 0 part_tables
   links ← each link_at 0 link_tables
   programs ← each program_at 0 program_tables
   Ok (record { until = record { 0 = until }; maps = maps; parts = parts; links = links; programs = programs })

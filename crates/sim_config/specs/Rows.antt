@@ -4,6 +4,8 @@ use Rattle.sim_config.specs.declared.keys.Shape.{Shape}
 use Rattle.sim_config.specs.declared.keys.Shape.TheVariants.{Any, MultipleOf4, MultipleOf64, PowerOfTwo}
 use Rattle.sim_config.specs.declared.kinds.PartKind.TheVariants.{Relay, Agent, Memory, Cache, Core}
 use Rattle.sim_config.specs.declared.kinds.LinkKind.TheVariants.{Direct}
+use Rattle.sim_config.specs.declared.version.Version.{Version}
+use Rattle.sim_config.specs.declared.version.Version.TheVariants.{One, Two}
 use Rattle.sim_config.specs.Keys
 use Rattle.sim_config.specs.Keys.{NumberRow, ListRow}
 
@@ -16,7 +18,7 @@ abbrev pub list : List ℕ → ℕ → ℕ → Shape → Bool → ListRow
 list word least greatest shape is_optional = record { word = word; lengths = record { least = least; greatest = greatest; shape = shape }; is_optional = is_optional }
 
 pub record TopRows : Type 0 where
-  pub version : Keys.version ≡ number (codes "version") 1 1 Any None
+  pub version : Keys.version ≡ number (codes "version") 1 2 Any None
   pub until : Keys.until ≡ number (codes "until") 0 500000000000 Any (Some 500000000000)
   pub maps : Keys.maps ≡ list (codes "map") 0 18446744073709551615 Any true
   pub parts : Keys.parts ≡ list (codes "part") 0 18446744073709551615 Any true
@@ -56,6 +58,7 @@ pub record CacheRows : Type 0 where
   pub line : Keys.line ≡ number (codes "line") 16 64 PowerOfTwo (Some 64)
   pub sets : Keys.sets ≡ number (codes "sets") 1 1024 PowerOfTwo None
   pub ways : Keys.ways ≡ number (codes "ways") 1 16 Any None
+  pub misses : Keys.misses ≡ number (codes "misses") 1 8 Any (Some 1)
 
 pub record CoreRows : Type 0 where
   pub pc : Keys.pc ≡ number (codes "pc") 0 4294967295 Any (Some 0)
@@ -63,17 +66,21 @@ pub record CoreRows : Type 0 where
 pub record LinkRows : Type 0 where
   pub ports : Keys.ports ≡ list (codes "ports") 1 1024 Any false
 
--- the words of each table, in the order in which its keys are read
+-- the words of each table, in the order in which its keys are read, where they are those of both versions
 pub record WordRows : Type 0 where
   pub top : Keys.top_words ≡ codes "version" ∷ codes "until" ∷ codes "map" ∷ codes "part" ∷ codes "link" ∷ codes "program" ∷ []
   pub map : Keys.map_words ≡ codes "name" ∷ codes "range" ∷ []
   pub range : Keys.range_words ≡ codes "base" ∷ codes "size" ∷ codes "to" ∷ codes "granule" ∷ []
   pub part : Keys.part_words ≡ codes "name" ∷ codes "kind" ∷ codes "period" ∷ codes "buffer" ∷ []
-  pub relay : Keys.part_kind_words Relay ≡ codes "to" ∷ codes "start" ∷ []
-  pub agent : Keys.part_kind_words Agent ≡ codes "map" ∷ codes "base" ∷ codes "span" ∷ codes "count" ∷ codes "window" ∷ codes "gap" ∷ codes "start" ∷ codes "mode" ∷ codes "draw" ∷ []
-  pub memory : Keys.part_kind_words Memory ≡ codes "base" ∷ codes "size" ∷ codes "latency" ∷ codes "depth" ∷ codes "words" ∷ []
-  pub cache : Keys.part_kind_words Cache ≡ codes "map" ∷ codes "line" ∷ codes "sets" ∷ codes "ways" ∷ []
-  pub core : Keys.part_kind_words Core ≡ codes "inst" ∷ codes "data" ∷ codes "pc" ∷ []
+  pub relay : (version : Version) → Keys.part_kind_words version Relay ≡ codes "to" ∷ codes "start" ∷ []
+  pub agent : (version : Version) → Keys.part_kind_words version Agent ≡ codes "map" ∷ codes "base" ∷ codes "span" ∷ codes "count" ∷ codes "window" ∷ codes "gap" ∷ codes "start" ∷ codes "mode" ∷ codes "draw" ∷ []
+  pub memory : (version : Version) → Keys.part_kind_words version Memory ≡ codes "base" ∷ codes "size" ∷ codes "latency" ∷ codes "depth" ∷ codes "words" ∷ []
+  pub core : (version : Version) → Keys.part_kind_words version Core ≡ codes "inst" ∷ codes "data" ∷ codes "pc" ∷ []
   pub link : Keys.link_words ≡ codes "name" ∷ codes "kind" ∷ codes "period" ∷ []
   pub direct : Keys.link_kind_words Direct ≡ codes "ports" ∷ []
   pub program : Keys.program_words ≡ codes "core" ∷ codes "file" ∷ []
+
+-- the words of a cache in each version
+pub record CacheWordRows : Type 0 where
+  pub one : Keys.part_kind_words One Cache ≡ codes "map" ∷ codes "line" ∷ codes "sets" ∷ codes "ways" ∷ []
+  pub two : Keys.part_kind_words Two Cache ≡ codes "map" ∷ codes "line" ∷ codes "sets" ∷ codes "ways" ∷ codes "misses" ∷ []

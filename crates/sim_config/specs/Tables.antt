@@ -1,9 +1,8 @@
 -- What the tables of a configuration say, and the ranges and shapes that this keeps.
-use Rattle.std.specs.Prelude.{◌≡◌, ℕ, true, ◌+◌, ◌*◌, ◌<◌, ◌≤◌, List, length, IfSome, IsUtf8}
+use Rattle.std.specs.Prelude.{ℕ, ◌+◌, ◌*◌, ◌<◌, ◌≤◌, List, length, IfSome, IsUtf8}
 use Rattle.sim_base.specs.declared.time.Time.{Time}
 use Rattle.sim_config.specs.declared.part_text.PartKeys.{PartKeys}
 use Rattle.sim_config.specs.declared.part_text.PartKeys.TheVariants.{Relay, Agent, Memory, Cache, Core}
-use Rattle.sim_config.specs.declared.kinds.PartKind.TheVariants as part_kinds
 use Rattle.sim_config.specs.declared.link_text.PortRef.{PortRef}
 use Rattle.sim_config.specs.declared.link_text.LinkKeys.{LinkKeys}
 use Rattle.sim_config.specs.Keys
@@ -69,17 +68,18 @@ pub record IsMemory (b s l d : ℕ) (w : List ℕ) : Type 0 where
   pub depth : Keys.IsAllowed Keys.depth.allowed d
   pub words : 4 * length w ≤ s
 
-pub record IsCache (l s w : ℕ) : Type 0 where
+pub record IsCache (l s w m : ℕ) : Type 0 where
   pub line : Keys.IsAllowed Keys.line.allowed l
   pub sets : Keys.IsAllowed Keys.sets.allowed s
   pub ways : Keys.IsAllowed Keys.ways.allowed w
+  pub misses : Keys.IsAllowed Keys.misses.allowed m
 
 abbrev pub AreKeys : PartKeys → Type 0
 AreKeys (Relay to start) = IfSome start (Keys.IsAllowed Keys.token.allowed)
 AreKeys (Agent map base span count window gap start mode draw) = IsAgent base span count window gap start draw
 AreKeys (Memory base size latency depth words) = IsMemory base size latency depth words
-AreKeys (Cache map line sets ways) = (Keys.is_built part_kinds.Cache ≡ true) × IsCache line sets ways
-AreKeys (Core inst data_map pc) = (Keys.is_built part_kinds.Core ≡ true) × Keys.IsAllowed Keys.pc.allowed pc
+AreKeys (Cache map line sets ways misses) = IsCache line sets ways misses
+AreKeys (Core inst data_map pc) = Keys.IsAllowed Keys.pc.allowed pc
 
 pub record IsPart (p : PartTable) : Type 0 where
   pub period : Keys.IsAllowed Keys.period.allowed p.period

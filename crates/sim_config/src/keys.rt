@@ -39,6 +39,7 @@ pub(crate) enum KeyWord {
     Line,
     Sets,
     Ways,
+    Misses,
     Pc,
     Map,
     Part,
@@ -91,6 +92,7 @@ impl KeyWord {
             KeyWord::Line => "line",
             KeyWord::Sets => "sets",
             KeyWord::Ways => "ways",
+            KeyWord::Misses => "misses",
             KeyWord::Pc => "pc",
             KeyWord::Map => "map",
             KeyWord::Part => "part",
@@ -199,7 +201,7 @@ pub(crate) const VERSION: NumberKey = NumberKey {
     key: KeyWord::Version,
     allowed: Allowed {
         least: 1,
-        greatest: 1,
+        greatest: 2,
         shape: Shape::Any,
     },
     default: None,
@@ -403,6 +405,16 @@ pub(crate) const WAYS: NumberKey = NumberKey {
         shape: Shape::Any,
     },
     default: None,
+};
+
+pub(crate) const MISSES: NumberKey = NumberKey {
+    key: KeyWord::Misses,
+    allowed: Allowed {
+        least: 1,
+        greatest: 8,
+        shape: Shape::Any,
+    },
+    default: Some(1),
 };
 
 pub(crate) const PC: NumberKey = NumberKey {

@@ -1,6 +1,8 @@
 ghost use Rattle.std.specs.Prelude.{◌≡◌};
 ghost use Rattle.sim_config.specs.Values.{texts};
 
+use crate::version::Version;
+
 /// The kinds of parts.
 #[derive(Clone, Copy)]
 pub(crate) enum PartKind {
@@ -11,12 +13,6 @@ pub(crate) enum PartKind {
     Core,
 }
 
-/// Whether there are caches yet. A kind without parts is refused as a word that is none of a kind.
-pub(crate) const CACHES_ARE_BUILT: bool = false;
-
-/// Whether there are cores yet.
-pub(crate) const CORES_ARE_BUILT: bool = true;
-
 /// The kinds of links.
 #[derive(Clone, Copy)]
 pub(crate) enum LinkKind {
@@ -24,29 +20,11 @@ pub(crate) enum LinkKind {
 }
 
 impl PartKind {
-    ghost use Rattle.sim_config.specs.Keys.{part_kind_words, is_built, if_built};
+    ghost use Rattle.sim_config.specs.Keys.{part_kind_words};
 
-    /// Whether there are parts of this kind yet.
-    fn is_built(self) -> bool
-        ensures { result ≡ is_built self }
-    {
-        match self {
-            PartKind::Relay | PartKind::Agent | PartKind::Memory => true,
-            PartKind::Cache => CACHES_ARE_BUILT,
-            PartKind::Core => CORES_ARE_BUILT,
-        }
-    }
-
-    /// The kind, or None where there are no parts of it yet.
-    pub(crate) fn if_built(self) -> Option<Self>
-        ensures { result ≡ if_built self }
-    {
-        if self.is_built() { Some(self) } else { None }
-    }
-
-    /// The words of the keys that parts of this kind alone have.
-    pub(crate) fn words(self) -> &'static [&'static str]
-        ensures { texts result.now ≡ part_kind_words self }
+    /// The words of the keys that parts of this kind alone have in a version.
+    pub(crate) fn words(self, version: Version) -> &'static [&'static str]
+        ensures { texts result.now ≡ part_kind_words version self }
     {
         match self {
             PartKind::Relay => &["to", "start"],
@@ -54,7 +32,10 @@ impl PartKind {
                 "map", "base", "span", "count", "window", "gap", "start", "mode", "draw",
             ],
             PartKind::Memory => &["base", "size", "latency", "depth", "words"],
-            PartKind::Cache => &["map", "line", "sets", "ways"],
+            PartKind::Cache => match version {
+                Version::One => &["map", "line", "sets", "ways"],
+                Version::Two => &["map", "line", "sets", "ways", "misses"],
+            },
             PartKind::Core => &["inst", "data", "pc"],
         }
     }

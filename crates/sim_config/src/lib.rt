@@ -39,6 +39,7 @@ mod table_reader;
 #[cfg(test)]
 mod tests;
 mod values;
+mod version;
 mod word;
 mod words;
 

@@ -1,6 +1,5 @@
-ghost use Rattle.std.specs.Prelude.{◌≡◌, ◌*◌, ◌/◌, ◌≤◌, length, true, IfOk};
+ghost use Rattle.std.specs.Prelude.{◌≡◌, ◌*◌, ◌/◌, ◌≤◌, length, IfOk};
 ghost use Rattle.toml.specs.View.{table_view};
-ghost use Rattle.sim_config.specs.declared.kinds.PartKind.TheVariants as part_kinds;
 ghost use Rattle.sim_config.specs.Keys;
 ghost use Rattle.sim_config.specs.Tables.{AreKeys};
 ghost use Rattle.sim_config.specs.Values.{Gives, list_at, number_in};
@@ -10,7 +9,8 @@ use crate::element::Words;
 use crate::fault::{ConfigFault, TableNo};
 use crate::keys::{
     ADDRESS_LIMIT, AGENT_BASE, BASE, BUFFER, COUNT, DEPTH, DRAW, GAP, KIND, LATENCY, LINE,
-    MEMORY_SIZE, NAME, PART_WORDS, PC, PERIOD, SETS, SPAN, START, TOKEN, WAYS, WINDOW, WORDS,
+    MEMORY_SIZE, MISSES, NAME, PART_WORDS, PC, PERIOD, SETS, SPAN, START, TOKEN, WAYS, WINDOW,
+    WORDS,
 };
 use crate::kinds::PartKind;
 use crate::list::optional_list;
@@ -18,6 +18,7 @@ use crate::list_of::ListOf;
 use crate::part_text::{PartKeys, PartText};
 use crate::section::Section;
 use crate::table_reader::TableReader;
+use crate::version::Version;
 use sim_base::Mode;
 use std::alloc::Global;
 use toml::Table;
@@ -89,27 +90,40 @@ fn memory(alloc: Global, section: &Section) -> Result<PartKeys, ConfigFault>
     })
 }
 
+/// How many misses a cache can have under way at once.
+fn misses(version: Version, section: &Section) -> Result<u64, ConfigFault>
+    ensures meaning { result ≡ spec.misses_at version section.now.place (table_view section.now.table.now) }
+    ensures allowed { IfOk result (Keys.IsAllowed Keys.misses.allowed) }
+{
+    match version {
+        Version::One => Ok(1),
+        Version::Two => section.number(&MISSES),
+    }
+}
+
 #[tactic(auto, unfolding(crate::specs::Meaning::cache_at))]
-fn cache(section: &Section) -> Result<PartKeys, ConfigFault>
-    ensures meaning { result ≡ spec.cache_at section.now.place (table_view section.now.table.now) }
-    ensures keys { Keys.is_built part_kinds.Cache ≡ true → IfOk result AreKeys }
+fn cache(version: Version, section: &Section) -> Result<PartKeys, ConfigFault>
+    ensures meaning { result ≡ spec.cache_at version section.now.place (table_view section.now.table.now) }
+    ensures keys { IfOk result AreKeys }
 {
     let map = section.name("map")?;
     let line = section.number(&LINE)?;
     let sets = section.number(&SETS)?;
     let ways = section.number(&WAYS)?;
+    let misses = misses(version, section)?;
     Ok(PartKeys::Cache {
         map,
         line: line as u32,
         sets: sets as u32,
         ways: ways as u32,
+        misses: misses as u32,
     })
 }
 
 #[tactic(auto, unfolding(crate::specs::Meaning::core_at))]
 fn core(section: &Section) -> Result<PartKeys, ConfigFault>
     ensures meaning { result ≡ spec.core_at section.now.place (table_view section.now.table.now) }
-    ensures keys { Keys.is_built part_kinds.Core ≡ true → IfOk result AreKeys }
+    ensures keys { IfOk result AreKeys }
 {
     let inst_map = section.name("inst")?;
     let data_map = section.name("data")?;
@@ -122,24 +136,32 @@ fn core(section: &Section) -> Result<PartKeys, ConfigFault>
 }
 
 /// The keys that a part has by its kind.
-fn keys(alloc: Global, kind: PartKind, section: &Section) -> Result<PartKeys, ConfigFault>
-    requires { Keys.is_built kind ≡ true }
-
-    ensures meaning { Gives result (spec.part_keys_at kind section.now.place (table_view section.now.table.now)) }
+fn keys(
+    alloc: Global,
+    version: Version,
+    kind: PartKind,
+    section: &Section,
+) -> Result<PartKeys, ConfigFault>
+    ensures meaning { Gives result (spec.part_keys_at version kind section.now.place (table_view section.now.table.now)) }
     ensures keys { IfOk result AreKeys }
 {
     match kind {
         PartKind::Relay => relay(section),
         PartKind::Agent => agent(section),
         PartKind::Memory => memory(alloc, section),
-        PartKind::Cache => cache(section),
+        PartKind::Cache => cache(version, section),
         PartKind::Core => core(section),
     }
 }
 
 #[tactic(auto, unfolding(crate::specs::Meaning::part_at))]
-fn part(alloc: Global, number: u32, table: &Table) -> Result<PartText, ConfigFault>
-    ensures { Gives result (spec.part_at number (table_view table.now)) }
+fn part(
+    alloc: Global,
+    version: Version,
+    number: u32,
+    table: &Table,
+) -> Result<PartText, ConfigFault>
+    ensures { Gives result (spec.part_at version number (table_view table.now)) }
 {
     let section = Section {
         place: TableNo::Part(number),
@@ -147,10 +169,10 @@ fn part(alloc: Global, number: u32, table: &Table) -> Result<PartText, ConfigFau
     };
     let name = section.name(NAME)?;
     let kind = section.choice::<PartKind>(KIND)?;
-    section.known(&PART_WORDS, kind.words())?;
+    section.known(&PART_WORDS, kind.words(version))?;
     let period = section.number(&PERIOD)?;
     let buffer = section.number(&BUFFER)?;
-    let keys = keys(alloc, kind, &section)?;
+    let keys = keys(alloc, version, kind, &section)?;
     Ok(PartText {
         name,
         period,
@@ -159,15 +181,18 @@ fn part(alloc: Global, number: u32, table: &Table) -> Result<PartText, ConfigFau
     })
 }
 
+/// The parts of a configuration of a version.
 #[derive(Clone, Copy)]
-pub(crate) struct Parts;
+pub(crate) struct Parts {
+    pub version: Version,
+}
 
 impl TableReader for Parts {
     type Text = PartText;
 
-    ghost text_at = { λ parts n. spec.part_at n };
+    ghost text_at = { λ parts n. spec.part_at parts.version n };
 
     fn read(&self, alloc: Global, number: u32, table: &Table) -> Result<PartText, ConfigFault> {
-        part(alloc, number, table)
+        part(alloc, self.version, number, table)
     }
 }

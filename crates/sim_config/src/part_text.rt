@@ -57,6 +57,8 @@ pub enum PartKeys {
         sets: u32,
         /// How many lines a set has, 1 to 16.
         ways: u32,
+        /// How many misses can be under way at once, 1 to 8; 1 in version 1.
+        misses: u32,
     },
     /// A core, which carries out a program.
     Core {

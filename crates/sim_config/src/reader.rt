@@ -16,6 +16,7 @@ use crate::plan_text::PlanText;
 use crate::program_reader::Programs;
 use crate::section::Section;
 use crate::table_reader::{each, tables};
+use crate::version::Version;
 use sim_base::Time;
 use std::alloc::Global;
 use toml::Table;
@@ -33,6 +34,16 @@ fn broken(rule: ConfigRule) -> ConfigFault
     }
 }
 
+#[tactic(auto, unfolding(crate::specs::Meaning::version_at))]
+fn version(section: &Section) -> Result<Version, ConfigFault>
+    ensures { result ≡ spec.version_at section.now.place (table_view section.now.table.now) }
+{
+    match section.number(&VERSION) {
+        Ok(number) => Ok(Version::of(number)),
+        Err(fault) => Err(fault),
+    }
+}
+
 #[tactic(auto, unfolding(crate::specs::Meaning::plan_at))]
 fn plan(alloc: Global, table: &Table) -> Result<PlanText, ConfigFault>
     ensures { Gives result (spec.plan_at (table_view table.now)) }
@@ -42,7 +53,7 @@ fn plan(alloc: Global, table: &Table) -> Result<PlanText, ConfigFault>
         table,
     };
     section.known(&TOP_WORDS, &[])?;
-    section.number(&VERSION)?;
+    let version = version(&section)?;
     let until = section.number(&UNTIL)?;
     let maps = tables(&section, &MAPS)?;
     let parts = tables(&section, &PARTS)?;
@@ -51,7 +62,7 @@ fn plan(alloc: Global, table: &Table) -> Result<PlanText, ConfigFault>
     Ok(PlanText {
         until: Time(until),
         maps: each(alloc, &Maps, maps)?,
-        parts: each(alloc, &Parts, parts)?,
+        parts: each(alloc, &Parts { version }, parts)?,
         links: each(alloc, &Links, links)?,
         programs: each(alloc, &Programs, programs)?,
     })

@@ -21,8 +21,8 @@ impl Word for PartKind {
             "relay" => Some(PartKind::Relay),
             "agent" => Some(PartKind::Agent),
             "memory" => Some(PartKind::Memory),
-            "cache" => PartKind::Cache.if_built(),
-            "core" => PartKind::Core.if_built(),
+            "cache" => Some(PartKind::Cache),
+            "core" => Some(PartKind::Core),
             _ => None,
         }
     }

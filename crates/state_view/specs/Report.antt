@@ -12,9 +12,10 @@ use Rattle.traffic_parts.specs.Relay.{RelayState, relay}
 use Rattle.traffic_parts.specs.Agent.{AgentState, agent}
 use Rattle.mem_ctrl.specs.Memory.{MemoryState, memory}
 use Rattle.rv_core.specs.Core.{CoreState, cause_of, core}
+use Rattle.cache_comp.specs.Cache.{CacheState, cache}
 use Rattle.direct_link.specs.Direct.{DirectState}
 use Rattle.part_kind.specs.declared.part.Part.{Part}
-use Rattle.part_kind.specs.declared.part.Part.TheVariants.{Relay, Agent, Memory, Core}
+use Rattle.part_kind.specs.declared.part.Part.TheVariants.{Relay, Agent, Memory, Core, Cache}
 use Rattle.part_kind.specs.declared.link_kind.LinkKind.{LinkKind}
 use Rattle.part_kind.specs.declared.link_kind.LinkKind.TheVariants.{Direct}
 use Rattle.task_stats.specs.Tasks.{TasksView, count_of}
@@ -62,6 +63,14 @@ core_counts s = codes " pc " ++ encode_lower (to_be_bytes w32 s.pc) ++ codes " r
 abbrev pub core_line : List ℕ → CoreState → List ℕ
 core_line name s = codes "part " ++ name ++ codes " core " ++ done_word (core.done s) ++ codes " " ++ cause_word (cause_of s.stage) ++ core_counts s
 
+-- `hits H misses M`
+abbrev pub cache_counts : CacheState → List ℕ
+cache_counts s = codes " hits " ++ decimal s.hits ++ codes " misses " ++ decimal s.misses ++ line_feed
+
+-- `part NAME cache W hits H misses M`
+abbrev pub cache_line : List ℕ → CacheState → List ℕ
+cache_line name s = codes "part " ++ name ++ codes " cache " ++ done_word (cache.done s) ++ cache_counts s
+
 abbrev pub direct_counts : DirectState → List ℕ
 direct_counts s = codes " direct moved " ++ decimal s.moved ++ codes " pointer " ++ decimal s.pointer ++ line_feed
 
@@ -74,6 +83,7 @@ part_line name (Relay s) = relay_line name s
 part_line name (Agent s) = agent_line name s
 part_line name (Memory s) = memory_line name s
 part_line name (Core s) = core_line name s
+part_line name (Cache s) = cache_line name s
 
 abbrev pub link_line : List ℕ → LinkKind → List ℕ
 link_line name (Direct s) = direct_line name s
@@ -90,6 +100,7 @@ has_tasks (Relay s) = false
 has_tasks (Agent s) = true
 has_tasks (Memory s) = false
 has_tasks (Core s) = true
+has_tasks (Cache s) = true
 
 -- `begun B ended E`
 abbrev pub task_numbers : TaskCount → List ℕ
@@ -126,6 +137,7 @@ bytes_of name (Relay s) = []
 bytes_of name (Agent s) = []
 bytes_of name (Memory s) = memory_rows name s.base s.bytes
 bytes_of name (Core s) = []
+bytes_of name (Cache s) = []
 
 -- the registers of a part, if it is a core
 abbrev pub regs_of : List ℕ → Part → List ℕ
@@ -133,6 +145,7 @@ regs_of name (Relay s) = []
 regs_of name (Agent s) = []
 regs_of name (Memory s) = []
 regs_of name (Core s) = regs_line name s
+regs_of name (Cache s) = []
 
 -- the registers of all cores and then the bytes of all memories, in order, where they are asked for
 abbrev pub dump_lines : List (List ℕ) → List Part → Bool → List ℕ

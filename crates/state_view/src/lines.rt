@@ -1,8 +1,9 @@
 ghost use Rattle.std.specs.Prelude.{◌≡◌, ◌++◌, OnOk};
-ghost use Rattle.state_view.specs.Report.{verdict_word, done_word, head_lines, relay_line, agent_line, memory_line, cause_word, core_counts, core_line, direct_counts, direct_line, part_line, link_line};
+ghost use Rattle.state_view.specs.Report.{verdict_word, done_word, head_lines, relay_line, agent_line, memory_line, cause_word, core_counts, core_line, cache_counts, cache_line, direct_counts, direct_line, part_line, link_line};
 
 use crate::run_end::RunEnd;
 use crate::text::Text;
+use cache_comp::Cache;
 use direct_link::Direct;
 use mem_ctrl::Memory;
 use part_kind::{LinkKind, Part};
@@ -118,6 +119,26 @@ fn put_core(text: &mut Text, name: &Name, core: &Core) -> Result<(), OutOfMemory
     put_core_counts(text, core)
 }
 
+fn put_cache_counts(text: &mut Text, cache: &Cache) -> Result<(), OutOfMemory>
+    ensures { OnOk result (text.new ≡ text.old ++ cache_counts cache.now) }
+{
+    text.put(b" hits ")?;
+    text.number(cache.hits())?;
+    text.put(b" misses ")?;
+    text.number(cache.misses())?;
+    text.put(b"\n")
+}
+
+fn put_cache(text: &mut Text, name: &Name, cache: &Cache) -> Result<(), OutOfMemory>
+    ensures { OnOk result (text.new ≡ text.old ++ cache_line name.now cache.now) }
+{
+    text.put(b"part ")?;
+    text.put(name.text())?;
+    text.put(b" cache ")?;
+    text.put(done_word(cache.done()))?;
+    put_cache_counts(text, cache)
+}
+
 fn put_counts(text: &mut Text, link: &Direct) -> Result<(), OutOfMemory>
     ensures { OnOk result (text.new ≡ text.old ++ direct_counts link.now) }
 {
@@ -145,6 +166,7 @@ pub fn put_part(text: &mut Text, name: &Name, part: &Part) -> Result<(), OutOfMe
         Part::Agent(agent) => put_agent(text, name, agent),
         Part::Memory(memory) => put_memory(text, name, memory),
         Part::Core(core) => put_core(text, name, core),
+        Part::Cache(cache) => put_cache(text, name, cache),
     }
 }
 

@@ -11,7 +11,7 @@ fn has_tasks(part: &Part) -> bool
     ensures { result ≡ has_tasks part.now }
 {
     match part {
-        Part::Agent(_) | Part::Core(_) => true,
+        Part::Agent(_) | Part::Core(_) | Part::Cache(_) => true,
         Part::Relay(_) | Part::Memory(_) => false,
     }
 }

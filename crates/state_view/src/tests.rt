@@ -6,10 +6,11 @@ use crate::memory_rows::put_memory_rows;
 use crate::task_lines::put_tasks;
 use crate::text::Text;
 use addr_map::Ranges;
+use cache_comp::{Cache, CacheText};
 use mem_ctrl::{Memory, MemoryText};
 use part_kind::Part;
 use port_msg::{Msg, MsgId, MsgKind, RecList, What};
-use sim_base::{ActorNo, Body, Mode, Name, OutOfMemory, PartNo, PortNo, Time};
+use sim_base::{ActorNo, Body, Mode, Name, OutOfMemory, PartNo, PortList, PortNo, Time};
 use std::alloc::Global;
 use std::test::Fail;
 use task_stats::Stats;
@@ -53,6 +54,23 @@ fn open_memory(alloc: Global, base: u32, bytes: &[u8]) -> Result<Memory, OutOfMe
         bytes: Body::of(Vec::from_slice(alloc, bytes)?),
     };
     Memory::open(alloc, &text)
+}
+
+/// A cache of one line and one miss, in which nothing is under way.
+fn open_cache(alloc: Global) -> Result<Part, OutOfMemory> {
+    let text = CacheText {
+        actor: ActorNo(2),
+        period: 1000,
+        top: PortNo(2),
+        bottom: PortNo(3),
+        map: Ranges::of(Vec::new(alloc)),
+        caches: PortList::of(Vec::new(alloc)),
+        line: 64,
+        sets: 1,
+        ways: 1,
+        misses: 1,
+    };
+    Ok(Part::Cache(Cache::open(alloc, &text)?))
 }
 
 #[test]
@@ -127,6 +145,20 @@ fn each_agent_has_a_line_of_its_tasks(rt: HostRuntime) -> Result<(), Fail> {
     put_tasks(&mut text, &[m, a, b], &parts, &stats)?;
     let lines =
         "task a begun 1 ended 1 sum 5000 greatest 5000\ntask b begun 0 ended 0 sum 0 greatest 0\n";
+    assert_eq!(rt; text.into_body().items(), lines.as_bytes());
+    Ok(())
+}
+
+#[test]
+fn a_cache_has_its_line_and_one_of_its_tasks(rt: HostRuntime) -> Result<(), Fail> {
+    let alloc = rt.alloc();
+    let c = Name::read(b"c").ok_or("a name")?;
+    let parts = vec![in alloc; open_cache(alloc)?]?;
+    let stats = Stats::open(alloc, 1)?;
+    let mut text = Text::new(alloc);
+    put_part(&mut text, &c, &parts[0])?;
+    put_tasks(&mut text, &[c], &parts, &stats)?;
+    let lines = "part c cache done hits 0 misses 0\ntask c begun 0 ended 0 sum 0 greatest 0\n";
     assert_eq!(rt; text.into_body().items(), lines.as_bytes());
     Ok(())
 }

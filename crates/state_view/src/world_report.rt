@@ -60,7 +60,7 @@ fn put_bytes(text: &mut Text, name: &Name, part: &Part) -> Result<(), OutOfMemor
 {
     match part {
         Part::Memory(memory) => put_memory_rows(text, name, memory),
-        Part::Relay(_) | Part::Agent(_) | Part::Core(_) => Ok(()),
+        Part::Relay(_) | Part::Agent(_) | Part::Core(_) | Part::Cache(_) => Ok(()),
     }
 }
 
@@ -80,7 +80,7 @@ fn put_regs_of(text: &mut Text, name: &Name, part: &Part) -> Result<(), OutOfMem
 {
     match part {
         Part::Core(core) => put_regs(text, name, core),
-        Part::Relay(_) | Part::Agent(_) | Part::Memory(_) => Ok(()),
+        Part::Relay(_) | Part::Agent(_) | Part::Memory(_) | Part::Cache(_) => Ok(()),
     }
 }
 

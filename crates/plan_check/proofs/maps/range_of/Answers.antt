@@ -1,7 +1,6 @@
 use Rattle.std.proofs.Common.{◌≡◌, sym, ap, ◌∙◌, map, subst}
 use Rattle.sim_config.specs.Tables.{RangeTable}
 use Rattle.addr_map.specs.Range.{IsRange}
-use Rattle.addr_map.specs.declared.range.Range.{Range}
 use Rattle.plan_rules.specs.Text.{range_targets}
 use Rattle.plan_check.specs.Maps.{port_to}
 use Rattle.plan_check.proofs.Ranges.{range_is_range}

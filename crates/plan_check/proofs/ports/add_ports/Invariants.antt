@@ -1,6 +1,6 @@
 use Rattle.std.proofs.Common.{◌≡◌, ◌++◌, drop}
-use Rattle.std.specs.Prelude.{All, Some}
-use Rattle.plan_check.specs.Plan.{HasCapacity, port_plans, ports_of_part}
+use Rattle.std.specs.Prelude.{All}
+use Rattle.plan_check.specs.Plan.{HasCapacity, port_plans}
 use Rattle.plan_rules.specs.Kinds.{port_words}
 use Rattle.plan_check.proofs.ports.add_ports.Given as goal
 

@@ -1,4 +1,4 @@
-use Rattle.std.proofs.Common.{◌≡◌, sym, ap, ◌∙◌, arith, map, length, List, ℕ, ◌++◌, ◌∷◌, [], Some, Vec, Global, Option}
+use Rattle.std.proofs.Common.{◌≡◌, sym, ap, ◌∙◌, arith, map, length, ℕ, ◌++◌, ◌∷◌, [], Some, Vec, Global, Option}
 use Rattle.std.specs.Prelude.{slice_get, option_map}
 use Rattle.std.proofs.lemmas.Option.{slice_get-map}
 use Rattle.sim_base.specs.declared.numbers.PortNo.{PortNo}

@@ -5,7 +5,7 @@ use Rattle.tick_law.specs.PlanView.{IsPlan}
 use Rattle.part_kind.specs.Part.{part, part_own}
 use Rattle.part_kind.specs.LinkKind.{link, link_own}
 use Rattle.plan_check.specs.Fields.{field_names}
-use Rattle.plan_check.specs.Plan.{HasCapacity, plan_of}
+use Rattle.plan_check.specs.Plan.{HasCapacity}
 use Rattle.plan_check.proofs.PlanLemmas.{AreCounted, kept, length-ports, plan_is, plan_is_plan}
 use Rattle.plan_check.proofs.whole.plan_of.Goals as goal
 
