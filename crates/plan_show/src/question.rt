@@ -6,6 +6,7 @@ ghost use Rattle.world_query.specs.Directory.{IsDirectoryOf};
 ghost use Rattle.world_query.specs.Legend.{legend_of, IsQueryOf};
 ghost use Rattle.plan_show.specs.Question.{part_asked, field_asked, asked};
 
+use sim_base::Body;
 use world_query::{Directory, Query};
 
 /// What is asked about a machine, with names as they are written.
@@ -13,8 +14,8 @@ use world_query::{Directory, Query};
 pub enum Question {
     Now,
     Parts,
-    Part(Vec<u8>),
-    Field(Vec<u8>, Vec<u8>),
+    Part(Body),
+    Field(Body, Body),
     Buffers,
     Progress,
     Stuck,
@@ -58,8 +59,8 @@ pub fn query_of(directory: &Directory, question: &Question) -> Result<Query, Unk
     match question {
         Question::Now => Ok(Query::Now),
         Question::Parts => Ok(Query::Parts),
-        Question::Part(part) => part_query(directory, part),
-        Question::Field(part, field) => field_query(directory, part, field),
+        Question::Part(part) => part_query(directory, part.items()),
+        Question::Field(part, field) => field_query(directory, part.items(), field.items()),
         Question::Buffers => Ok(Query::Buffers),
         Question::Progress => Ok(Query::Progress),
         Question::Stuck => Ok(Query::Stuck),

@@ -12,9 +12,9 @@ use Rattle.top_run.specs.declared.refusal.Refusal.{Refusal}
 use Rattle.top_run.specs.declared.refusal.Refusal.TheVariants as refusals
 use Rattle.top_run.specs.Words.{Accepts, RefusedAt, IsUsage}
 use Rattle.top_run.specs.Job.{Rule, Means}
-use Rattle.top_run.specs.Top.{engine_of, job_status, all_lines, job_written, job_steps, IsJob, HasRun, SomeJob, FailedAt, FailedBehind, ReadFailed, IsFaultOfJob, IsFaultOfFile, IsCause, IsUnwritten, IsUnread, IsUnreported, IsFaultOfEngine, IsFaultOfRun, refusal_of, IsBroken, rule_status}
+use Rattle.top_run.specs.Top.{job_status, all_lines, job_written, job_steps, IsJob, HasRun, SomeJob, FailedAt, FailedBehind, ReadFailed, IsFaultOfJob, IsFaultOfFile, IsCause, IsUnwritten, IsUnreported, IsFaultOfEngine, IsFaultOfRun, refusal_of, IsBroken, rule_status}
 
-pub has_run : (r : Result Status Refusal) (contents : List ℕ → Option (List ℕ)) (words : List (List ℕ)) (command : Command) (job : Job) (old new : Option (List ℕ)) (before after : ℕ) → IsJob contents words command job → IfOk r (λ (s : Status). s.0 ≡ job_status (engine_of command) job) → OnOk r (Got old new (job_written (engine_of command) job)) → OnOk r (after ≡ before + job_steps (engine_of command) job) → IfOk r (λ (s : Status). HasRun contents words s.0 old new before after)
+pub has_run : (r : Result Status Refusal) (contents : List ℕ → Option (List ℕ)) (words : List (List ℕ)) (command : Command) (job : Job) (old new : Option (List ℕ)) (before after : ℕ) → IsJob contents words command job → IfOk r (λ (s : Status). s.0 ≡ job_status job) → OnOk r (Got old new (job_written job)) → OnOk r (after ≡ before + job_steps job) → IfOk r (λ (s : Status). HasRun contents words s.0 old new before after)
 has_run (Ok s) contents words command job old new before after is status written steps = record { command = command; job = job; is_job = is; status_is = status; written = written; steps = steps }
 has_run (Err e) contents words command job old new before after is status written steps = status
 
@@ -25,6 +25,7 @@ module _ (contents : List ℕ → Option (List ℕ)) (first last : List ℕ → 
   cause_of_words (refusals.Config fault) is = absurd is
   cause_of_words (refusals.Program breach) is = absurd is
   cause_of_words (refusals.Plan breach) is = absurd is
+  cause_of_words (refusals.Name unknown) is = absurd is
   cause_of_words refusals.Write is = absurd is
   cause_of_words (refusals.WriteAt d) is = absurd is
   cause_of_words refusals.OutOfMemory is = is
@@ -35,16 +36,18 @@ module _ (contents : List ℕ → Option (List ℕ)) (first last : List ℕ → 
   cause_of_file command (refusals.Config fault) a is = (command, a, is)
   cause_of_file command (refusals.Program breach) a is = (command, a, is)
   cause_of_file command (refusals.Plan breach) a is = (command, a, is)
+  cause_of_file command (refusals.Name unknown) a is = (command, a, is)
   cause_of_file command refusals.Write a is = absurd is
   cause_of_file command (refusals.WriteAt d) a is = absurd is
   cause_of_file command refusals.OutOfMemory a is = is
 
-  pub cause_of_job : (command : Command) (job : Job) (memory : Type 0) (r : Refusal) → IsJob contents words command job → IsFaultOfJob (Rose before after × FailedBehind (engine_of command) job old new) (λ d. Rose before after × FailedAt (engine_of command) job old new d) memory r → IsCause contents first last words before after old new r
+  pub cause_of_job : (command : Command) (job : Job) (memory : Type 0) (r : Refusal) → IsJob contents words command job → IsFaultOfJob (Rose before after × FailedBehind job old new) (λ d. Rose before after × FailedAt job old new d) memory r → IsCause contents first last words before after old new r
   cause_of_job command job memory (refusals.Usage k) a is = absurd is
   cause_of_job command job memory (refusals.Read file) a is = absurd is
   cause_of_job command job memory (refusals.Config fault) a is = absurd is
   cause_of_job command job memory (refusals.Program breach) a is = absurd is
   cause_of_job command job memory (refusals.Plan breach) a is = absurd is
+  cause_of_job command job memory (refusals.Name unknown) a is = absurd is
   cause_of_job command job memory refusals.Write a is = (is.0, (command, job, a, is.1))
   cause_of_job command job memory (refusals.WriteAt d) a is = (is.0, (command, job, a, is.1))
   cause_of_job command job memory refusals.OutOfMemory a is = tt
@@ -56,6 +59,7 @@ unwritten_so_far same (refusals.Read file) is = is
 unwritten_so_far same (refusals.Config fault) is = is
 unwritten_so_far same (refusals.Program breach) is = is
 unwritten_so_far same (refusals.Plan breach) is = is
+unwritten_so_far same (refusals.Name unknown) is = is
 unwritten_so_far same refusals.Write is = tt
 unwritten_so_far same (refusals.WriteAt d) is = tt
 unwritten_so_far same refusals.OutOfMemory is = tt
@@ -66,40 +70,10 @@ unreported_so_far lines (refusals.Read file) is = tt
 unreported_so_far lines (refusals.Config fault) is = tt
 unreported_so_far lines (refusals.Program breach) is = tt
 unreported_so_far lines (refusals.Plan breach) is = tt
+unreported_so_far lines (refusals.Name unknown) is = tt
 unreported_so_far lines refusals.Write is = tt
 unreported_so_far lines (refusals.WriteAt d) is = tt
 unreported_so_far lines refusals.OutOfMemory is = is
-
-pub unread_so_far : (same : Type 0) (r : Refusal) → same → IsUnread same r
-unread_so_far same (refusals.Usage k) is = is
-unread_so_far same (refusals.Read file) is = tt
-unread_so_far same (refusals.Config fault) is = tt
-unread_so_far same (refusals.Program breach) is = tt
-unread_so_far same (refusals.Plan breach) is = tt
-unread_so_far same refusals.Write is = tt
-unread_so_far same (refusals.WriteAt d) is = tt
-unread_so_far same refusals.OutOfMemory is = tt
-
--- no words are refused any more
-pub unread_of_file : (same : Type 0) (read : _) (rule : _) (r : Refusal) → IsFaultOfFile read rule r → IsUnread same r
-unread_of_file same read rule (refusals.Usage k) is = absurd is
-unread_of_file same read rule (refusals.Read file) is = tt
-unread_of_file same read rule (refusals.Config fault) is = tt
-unread_of_file same read rule (refusals.Program breach) is = tt
-unread_of_file same read rule (refusals.Plan breach) is = tt
-unread_of_file same read rule refusals.Write is = tt
-unread_of_file same read rule (refusals.WriteAt d) is = tt
-unread_of_file same read rule refusals.OutOfMemory is = tt
-
-pub unread_of_job : (same behind : Type 0) (at : ℕ → Type 0) (memory : Type 0) (r : Refusal) → IsFaultOfJob behind at memory r → IsUnread same r
-unread_of_job same behind at memory (refusals.Usage k) is = absurd is
-unread_of_job same behind at memory (refusals.Read file) is = tt
-unread_of_job same behind at memory (refusals.Config fault) is = tt
-unread_of_job same behind at memory (refusals.Program breach) is = tt
-unread_of_job same behind at memory (refusals.Plan breach) is = tt
-unread_of_job same behind at memory refusals.Write is = tt
-unread_of_job same behind at memory (refusals.WriteAt d) is = tt
-unread_of_job same behind at memory refusals.OutOfMemory is = tt
 
 pub unwritten_of_job : (same behind : Type 0) (at : ℕ → Type 0) (memory : Type 0) (r : Refusal) → IsFaultOfJob behind at memory r → IsUnwritten same r
 unwritten_of_job same behind at memory (refusals.Usage k) is = absurd is
@@ -107,6 +81,7 @@ unwritten_of_job same behind at memory (refusals.Read file) is = absurd is
 unwritten_of_job same behind at memory (refusals.Config fault) is = absurd is
 unwritten_of_job same behind at memory (refusals.Program breach) is = absurd is
 unwritten_of_job same behind at memory (refusals.Plan breach) is = absurd is
+unwritten_of_job same behind at memory (refusals.Name unknown) is = absurd is
 unwritten_of_job same behind at memory refusals.Write is = tt
 unwritten_of_job same behind at memory (refusals.WriteAt d) is = tt
 unwritten_of_job same behind at memory refusals.OutOfMemory is = tt
@@ -117,12 +92,13 @@ unreported_of_job behind at memory lines (refusals.Read file) f is = tt
 unreported_of_job behind at memory lines (refusals.Config fault) f is = tt
 unreported_of_job behind at memory lines (refusals.Program breach) f is = tt
 unreported_of_job behind at memory lines (refusals.Plan breach) f is = tt
+unreported_of_job behind at memory lines (refusals.Name unknown) f is = tt
 unreported_of_job behind at memory lines refusals.Write f is = tt
 unreported_of_job behind at memory lines (refusals.WriteAt d) f is = tt
 unreported_of_job behind at memory lines refusals.OutOfMemory f is = f is
 
 -- the lines of a job are those of some job
-pub some_lines : {S : Type 0} (contents : List ℕ → Option (List ℕ)) (words : List (List ℕ)) (command : Command) (job : Job) (old new : Option (List ℕ)) → IsJob contents words command job → S ⊎ Got old new (all_lines (engine_of command) job) → S ⊎ SomeJob contents words (λ c j. Got old new (all_lines (engine_of c) j))
+pub some_lines : {S : Type 0} (contents : List ℕ → Option (List ℕ)) (words : List (List ℕ)) (command : Command) (job : Job) (old new : Option (List ℕ)) → IsJob contents words command job → S ⊎ Got old new (all_lines job) → S ⊎ SomeJob contents words (λ c j. Got old new (all_lines j))
 some_lines contents words command job old new a (inl same) = inl same
 some_lines contents words command job old new a (inr got) = inr (command, job, a, got)
 
@@ -138,7 +114,7 @@ fault_of_run at memory others (faults.Trace fault) g is = is
 fault_of_run at memory others faults.OutOfMemory g is = g is
 
 -- where no memory was found for a job, no part of its report is written
-pub unreported_result : (S : Type 0) (r : Result Status Refusal) (behind : Type 0) (at : ℕ → Type 0) (contents : List ℕ → Option (List ℕ)) (words : List (List ℕ)) (command : Command) (job : Job) (old new : Option (List ℕ)) → IsJob contents words command job → IfErr r (IsFaultOfJob behind at (S ⊎ Got old new (all_lines (engine_of command) job))) → IfErr r (IsUnreported (S ⊎ SomeJob contents words (λ c j. Got old new (all_lines (engine_of c) j))))
+pub unreported_result : (S : Type 0) (r : Result Status Refusal) (behind : Type 0) (at : ℕ → Type 0) (contents : List ℕ → Option (List ℕ)) (words : List (List ℕ)) (command : Command) (job : Job) (old new : Option (List ℕ)) → IsJob contents words command job → IfErr r (IsFaultOfJob behind at (S ⊎ Got old new (all_lines job))) → IfErr r (IsUnreported (S ⊎ SomeJob contents words (λ c j. Got old new (all_lines j))))
 unreported_result S (Ok x) behind at contents words command job old new a is = is
 unreported_result S (Err e) behind at contents words command job old new a is = unreported_of_job behind at _ _ e (λ lines. some_lines contents words command job old new a lines) is
 

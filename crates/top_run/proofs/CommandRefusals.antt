@@ -8,7 +8,7 @@ use Rattle.top_run.specs.declared.command.Options.{Options}
 use Rattle.top_run.specs.declared.command.Detail.{Detail}
 use Rattle.top_run.specs.declared.command.Detail.TheVariants.{Trace, Stats, Dump}
 use Rattle.top_run.specs.declared.command.Command.TheVariants as commands
-use Rattle.top_run.specs.Words.{latest, IsFile, Until, Shows, setting_words, detail_word, has_detail, with_detail, with_setting, Lead, AreSettings, IsAccepted, no_options, IsBehind, IsRing, IsOneFile, IsFileAndOptions, HasOptions, IsRefusedFrom, IsNumberAt}
+use Rattle.top_run.specs.Words.{latest, IsFile, Until, Shows, setting_words, detail_word, has_detail, with_detail, with_setting, Lead, AreSettings, IsAccepted, no_options, IsBehind, IsRing, IsOneFile, IsFileAndOptions, IsShow, HasOptions, IsRefusedFrom, IsNumberAt}
 use Rattle.top_run.proofs.WordRefusals.{from_here, from_behind, from_same, drop_at}
 
 abbrev pub ring_of : ℕ → ℕ → Ring
@@ -38,6 +38,7 @@ is_ring t (commands.Ring ring, e, is) = (ring, is)
 is_ring t (commands.Check file, e, is) = differ (codes "check") (codes "ring") (λ h. omega (arith, h)) e
 is_ring t (commands.Run file options, e, is) = absurd (cc)
 is_ring t (commands.Slow file options, e, is) = differ (codes "slow") (codes "ring") (λ h. omega (arith, h)) e
+is_ring t (commands.Show file at question, e, is) = differ (codes "show") (codes "ring") (λ h. omega (arith, h)) e
 
 pub behind_ring : (words : List (List ℕ)) (k : ℕ) → IsRefusedFrom IsRing words 1 k → IsRefusedFrom (IsBehind (codes "ring")) words 1 k
 behind_ring words k r = from_same (IsBehind (codes "ring")) IsRing words 1 k ring_is is_ring r
@@ -51,6 +52,7 @@ is_check t (commands.Ring ring, e, is) = differ (codes "ring") (codes "check") (
 is_check t (commands.Check file, e, is) = (file, is)
 is_check t (commands.Run file options, e, is) = differ (codes "run") (codes "check") (λ h. omega (arith, h)) e
 is_check t (commands.Slow file options, e, is) = differ (codes "slow") (codes "check") (λ h. omega (arith, h)) e
+is_check t (commands.Show file at question, e, is) = differ (codes "show") (codes "check") (λ h. omega (arith, h)) e
 
 pub behind_check : (words : List (List ℕ)) (k : ℕ) → IsRefusedFrom IsOneFile words 1 k → IsRefusedFrom (IsBehind (codes "check")) words 1 k
 behind_check words k r = from_same (IsBehind (codes "check")) IsOneFile words 1 k check_is is_check r
@@ -64,6 +66,7 @@ is_run t (commands.Ring ring, e, is) = absurd (cc)
 is_run t (commands.Check file, e, is) = differ (codes "check") (codes "run") (λ h. omega (arith, h)) e
 is_run t (commands.Run file options, e, is) = (file, options, is)
 is_run t (commands.Slow file options, e, is) = differ (codes "slow") (codes "run") (λ h. omega (arith, h)) e
+is_run t (commands.Show file at question, e, is) = differ (codes "show") (codes "run") (λ h. omega (arith, h)) e
 
 pub behind_run : (words : List (List ℕ)) (k : ℕ) → IsRefusedFrom IsFileAndOptions words 1 k → IsRefusedFrom (IsBehind (codes "run")) words 1 k
 behind_run words k r = from_same (IsBehind (codes "run")) IsFileAndOptions words 1 k run_is is_run r
@@ -77,9 +80,24 @@ is_slow t (commands.Ring ring, e, is) = differ (codes "ring") (codes "slow") (λ
 is_slow t (commands.Check file, e, is) = differ (codes "check") (codes "slow") (λ h. omega (arith, h)) e
 is_slow t (commands.Run file options, e, is) = differ (codes "run") (codes "slow") (λ h. omega (arith, h)) e
 is_slow t (commands.Slow file options, e, is) = (file, options, is)
+is_slow t (commands.Show file at question, e, is) = let second : 104 ≡ 108 = ap (λ l. get_or l 1 0) e in absurd (omega (arith, second))
 
 pub behind_slow : (words : List (List ℕ)) (k : ℕ) → IsRefusedFrom IsFileAndOptions words 1 k → IsRefusedFrom (IsBehind (codes "slow")) words 1 k
 behind_slow words k r = from_same (IsBehind (codes "slow")) IsFileAndOptions words 1 k slow_is is_slow r
+
+-- `show`
+show_is : (t : List (List ℕ)) → IsShow t → IsBehind (codes "show") t
+show_is t (file, at, question, is) = (commands.Show file at question, refl, is)
+
+is_show : (t : List (List ℕ)) → IsBehind (codes "show") t → IsShow t
+is_show t (commands.Ring ring, e, is) = differ (codes "ring") (codes "show") (λ h. omega (arith, h)) e
+is_show t (commands.Check file, e, is) = differ (codes "check") (codes "show") (λ h. omega (arith, h)) e
+is_show t (commands.Run file options, e, is) = differ (codes "run") (codes "show") (λ h. omega (arith, h)) e
+is_show t (commands.Slow file options, e, is) = let second : 108 ≡ 104 = ap (λ l. get_or l 1 0) e in absurd (omega (arith, second))
+is_show t (commands.Show file at question, e, is) = (file, at, question, is)
+
+pub behind_show : (words : List (List ℕ)) (k : ℕ) → IsRefusedFrom IsShow words 1 k → IsRefusedFrom (IsBehind (codes "show")) words 1 k
+behind_show words k r = from_same (IsBehind (codes "show")) IsShow words 1 k show_is is_show r
 
 -- the numbers of a ring
 pub no_relays : (words : List (List ℕ)) (k : ℕ) → k ≡ 2 → ((n : ℕ) → IsNumberAt words 1 1 256 n → ⊥) → IsRefusedFrom IsRing words 1 k
@@ -123,7 +141,7 @@ behind_time words place n k number r = from_behind IsTime IsEnd (decimal n) word
     off t (until, is, within) = cc
 
 -- files
-sample : IsFile (codes "a")
+pub sample : IsFile (codes "a")
 sample = (97, refl, λ h. omega (arith, h))
 
 pub no_file : (words : List (List ℕ)) (k : ℕ) → k ≡ 2 → ((file : List ℕ) → slice_get words 1 ≡ Some file → IsFile file → ⊥) → IsRefusedFrom IsOneFile words 1 k

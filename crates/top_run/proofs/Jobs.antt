@@ -15,11 +15,11 @@ use Rattle.elf_load.specs.declared.rule.ElfRule.TheVariants as elf_rules
 use Rattle.elf_load.specs.declared.image.Image.{Image}
 use Rattle.top_run.specs.declared.program_breach.ProgramRule.TheVariants.{Format}
 use Rattle.top_run.specs.declared.program_breach.ProgramBreach.{ProgramBreach}
-use Rattle.top_run.specs.declared.command.Options.{Options}
 use Rattle.top_run.specs.declared.refusal.Refusal.{Refusal}
 use Rattle.top_run.specs.declared.refusal.Refusal.TheVariants as refusals
-use Rattle.top_run.specs.declared.job.Job.{Job}
-use Rattle.top_run.specs.Job.{Rule, Config, Program, Plan, Gave, AreOwn, BreaksFormat, AreRead, IsProgramName, MeansFile, IsNameOfFile, job_of_plan, with_budget, IsFaultOfReading, IsFaultOfProgram, IsFaultOfPlan}
+use Rattle.top_run.specs.declared.machine.Machine.{Machine}
+use Rattle.plan_show.specs.declared.question.Unknown.{Unknown}
+use Rattle.top_run.specs.Job.{Rule, Config, Program, Plan, Name, Gave, AreOwn, BreaksFormat, AreRead, IsProgramName, MeansFile, IsNameOfFile, machine_of_plan, with_budget, IsFaultOfReading, IsFaultOfProgram, IsFaultOfPlan, IsFaultOfName}
 use Rattle.top_run.specs.Top.{IsFaultOfFile}
 use Rattle.top_run.proofs.Loading.{breach_of, file_means, fault_means, name_means, own_from, read_more, name_more}
 
@@ -64,6 +64,7 @@ file_from_text P Q F R f g (refusals.Read file) is = f file is
 file_from_text P Q F R f g (refusals.Config fault) is = g fault is
 file_from_text P Q F R f g (refusals.Program breach) is = absurd is
 file_from_text P Q F R f g (refusals.Plan breach) is = absurd is
+file_from_text P Q F R f g (refusals.Name unknown) is = absurd is
 file_from_text P Q F R f g refusals.Write is = is
 file_from_text P Q F R f g (refusals.WriteAt d) is = is
 file_from_text P Q F R f g refusals.OutOfMemory is = is
@@ -74,6 +75,7 @@ file_from_programs P Q B R f g (refusals.Read file) is = f file is
 file_from_programs P Q B R f g (refusals.Config fault) is = absurd is
 file_from_programs P Q B R f g (refusals.Program breach) is = g breach is
 file_from_programs P Q B R f g (refusals.Plan breach) is = absurd is
+file_from_programs P Q B R f g (refusals.Name unknown) is = absurd is
 file_from_programs P Q B R f g refusals.Write is = is
 file_from_programs P Q B R f g (refusals.WriteAt d) is = is
 file_from_programs P Q B R f g refusals.OutOfMemory is = is
@@ -84,9 +86,34 @@ file_from_plan Q S R f (refusals.Read file) is = absurd is
 file_from_plan Q S R f (refusals.Config fault) is = absurd is
 file_from_plan Q S R f (refusals.Program breach) is = f (Program breach) is
 file_from_plan Q S R f (refusals.Plan breach) is = f (Plan breach) is
+file_from_plan Q S R f (refusals.Name unknown) is = absurd is
 file_from_plan Q S R f refusals.Write is = is
 file_from_plan Q S R f (refusals.WriteAt d) is = is
 file_from_plan Q S R f refusals.OutOfMemory is = is
+
+-- and so are unknown names of a question
+pub file_from_name : (Q : List ℕ → Type 0) (U : Unknown → Type 0) (R : Rule → Type 0) → ((unknown : Unknown) → U unknown → R (Name unknown)) → (r : Refusal) → IsFaultOfName U r → IsFaultOfFile Q R r
+file_from_name Q U R f (refusals.Usage k) is = is
+file_from_name Q U R f (refusals.Read file) is = absurd is
+file_from_name Q U R f (refusals.Config fault) is = absurd is
+file_from_name Q U R f (refusals.Program breach) is = absurd is
+file_from_name Q U R f (refusals.Plan breach) is = absurd is
+file_from_name Q U R f (refusals.Name unknown) is = f unknown is
+file_from_name Q U R f refusals.Write is = is
+file_from_name Q U R f (refusals.WriteAt d) is = is
+file_from_name Q U R f refusals.OutOfMemory is = is
+
+-- a fault of a file, where its rules say more
+pub file_from_file : (Q : List ℕ → Type 0) (S R : Rule → Type 0) → ((rule : Rule) → S rule → R rule) → (r : Refusal) → IsFaultOfFile Q S r → IsFaultOfFile Q R r
+file_from_file Q S R f (refusals.Usage k) is = is
+file_from_file Q S R f (refusals.Read file) is = is
+file_from_file Q S R f (refusals.Config fault) is = f (Config fault) is
+file_from_file Q S R f (refusals.Program breach) is = f (Program breach) is
+file_from_file Q S R f (refusals.Plan breach) is = f (Plan breach) is
+file_from_file Q S R f (refusals.Name unknown) is = f (Name unknown) is
+file_from_file Q S R f refusals.Write is = is
+file_from_file Q S R f (refusals.WriteAt d) is = is
+file_from_file Q S R f refusals.OutOfMemory is = is
 
 pub program_from : (P Q : List ℕ → Type 0) (B C : ProgramBreach → Type 0) → ((name : List ℕ) → P name → Q name) → ((breach : ProgramBreach) → B breach → C breach) → (r : Refusal) → IsFaultOfProgram P B r → IsFaultOfProgram Q C r
 program_from P Q B C f g (refusals.Usage k) is = is
@@ -94,40 +121,41 @@ program_from P Q B C f g (refusals.Read file) is = f file is
 program_from P Q B C f g (refusals.Config fault) is = is
 program_from P Q B C f g (refusals.Program breach) is = g breach is
 program_from P Q B C f g (refusals.Plan breach) is = is
+program_from P Q B C f g (refusals.Name unknown) is = is
 program_from P Q B C f g refusals.Write is = is
 program_from P Q B C f g (refusals.WriteAt d) is = is
 program_from P Q B C f g refusals.OutOfMemory is = is
 
 -- a fault of the reading of a file is one of its job
-pub fault_of_text : (old : List ℕ → Option (List ℕ)) (first last : List ℕ → ℕ) (options : Options) (file : List ℕ) (r : Refusal) → IsFaultOfReading (λ name. (name ≡ file) × Rose (first file) (last file)) (λ fault. Gave (old file) (λ bytes. config_of bytes ≡ Err fault)) r → IsFaultOfFile (λ name. IsNameOfFile (AreOwn old) file name × Rose (first name) (last name)) (λ rule. MeansFile (AreOwn old) options file (Err rule)) r
-fault_of_text old first last options file r is = file_from_text _ (λ name. IsNameOfFile (AreOwn old) file name × Rose (first name) (last name)) _ (λ rule. MeansFile (AreOwn old) options file (Err rule))
+pub fault_of_text : (old : List ℕ → Option (List ℕ)) (first last : List ℕ → ℕ) (until : Option Time) (file : List ℕ) (r : Refusal) → IsFaultOfReading (λ name. (name ≡ file) × Rose (first file) (last file)) (λ fault. Gave (old file) (λ bytes. config_of bytes ≡ Err fault)) r → IsFaultOfFile (λ name. IsNameOfFile (AreOwn old) file name × Rose (first name) (last name)) (λ rule. MeansFile (AreOwn old) until file (Err rule)) r
+fault_of_text old first last until file r is = file_from_text _ (λ name. IsNameOfFile (AreOwn old) file name × Rose (first name) (last name)) _ (λ rule. MeansFile (AreOwn old) until file (Err rule))
     (λ name read. (inl read.0, subst (λ n. Rose (first n) (last n)) (sym read.0) read.1))
-    (λ fault given. fault_means (AreOwn old) options file given.0 given.1 fault given.2)
+    (λ fault given. fault_means (AreOwn old) until file given.0 given.1 fault given.2)
     r is
 
 -- what a file means that gave a text with these program tables, in files whose contents stayed
-module _ (old now : List ℕ → Option (List ℕ)) (options : Options) (file : List ℕ) (stayed : (name : List ℕ) → now name ≡ old name) (text : PlanTables) (gave : Gave (old file) (λ bytes. config_of bytes ≡ Ok text)) (tables : List ProgramTable) (rows : tables ≡ text.programs) where
+module _ (old now : List ℕ → Option (List ℕ)) (until : Option Time) (file : List ℕ) (stayed : (name : List ℕ) → now name ≡ old name) (text : PlanTables) (gave : Gave (old file) (λ bytes. config_of bytes ≡ Ok text)) (tables : List ProgramTable) (rows : tables ≡ text.programs) where
   own_read : (r : Result (List Image) ProgramBreach) → AreRead (AreOwn now) tables r → AreRead (AreOwn old) text.programs r
   own_read r read = subst (λ ts. AreRead (AreOwn old) ts r) rows (read_more (AreOwn now) (AreOwn old) (own_from now old stayed) tables r read)
 
   -- a fault of the reading of its programs is one of its job
-  pub fault_of_programs : (first mid last : List ℕ → ℕ) (r : Refusal) → ((name : List ℕ) → first name ≤ mid name) → IsFaultOfProgram (λ name. IsProgramName (AreOwn now) tables name × Rose (mid name) (last name)) (λ breach. AreRead (AreOwn now) tables (Err breach)) r → IsFaultOfFile (λ name. IsNameOfFile (AreOwn old) file name × Rose (first name) (last name)) (λ rule. MeansFile (AreOwn old) options file (Err rule)) r
-  fault_of_programs first mid last r rise is = file_from_programs _ (λ name. IsNameOfFile (AreOwn old) file name × Rose (first name) (last name)) _ (λ rule. MeansFile (AreOwn old) options file (Err rule))
-      (λ name read. (name_means (AreOwn old) options file gave.0 gave.1 text name gave.2 (subst (λ ts. IsProgramName (AreOwn old) ts name) rows (name_more (AreOwn now) (AreOwn old) (own_from now old stayed) tables name read.0)), rose_behind (first name) (mid name) (last name) (rise name) read.1))
-      (λ breach read. file_means (AreOwn old) options file gave.0 gave.1 text (Err breach) (Err (Program breach)) gave.2 (own_read (Err breach) read) refl)
+  pub fault_of_programs : (first mid last : List ℕ → ℕ) (r : Refusal) → ((name : List ℕ) → first name ≤ mid name) → IsFaultOfProgram (λ name. IsProgramName (AreOwn now) tables name × Rose (mid name) (last name)) (λ breach. AreRead (AreOwn now) tables (Err breach)) r → IsFaultOfFile (λ name. IsNameOfFile (AreOwn old) file name × Rose (first name) (last name)) (λ rule. MeansFile (AreOwn old) until file (Err rule)) r
+  fault_of_programs first mid last r rise is = file_from_programs _ (λ name. IsNameOfFile (AreOwn old) file name × Rose (first name) (last name)) _ (λ rule. MeansFile (AreOwn old) until file (Err rule))
+      (λ name read. (name_means (AreOwn old) until file gave.0 gave.1 text name gave.2 (subst (λ ts. IsProgramName (AreOwn old) ts name) rows (name_more (AreOwn now) (AreOwn old) (own_from now old stayed) tables name read.0)), rose_behind (first name) (mid name) (last name) (rise name) read.1))
+      (λ breach read. file_means (AreOwn old) until file gave.0 gave.1 text (Err breach) (Err (Program breach)) gave.2 (own_read (Err breach) read) refl)
       r is
 
   -- and what its plan means it does
-  pub means_of_plan : (images : List Image) (plan : PlanTables) (meaning : Result Job Rule) → AreRead (AreOwn now) tables (Ok images) → plan ≡ with_budget options.until text → job_of_plan images options plan ≡ meaning → MeansFile (AreOwn old) options file meaning
-  means_of_plan images plan meaning read is e = file_means (AreOwn old) options file gave.0 gave.1 text (Ok images) meaning gave.2 (own_read (Ok images) read) (ap (job_of_plan images options) (sym is) ∙ e)
+  pub means_of_plan : (images : List Image) (plan : PlanTables) (meaning : Result Machine Rule) → AreRead (AreOwn now) tables (Ok images) → plan ≡ with_budget until text → machine_of_plan images plan ≡ meaning → MeansFile (AreOwn old) until file meaning
+  means_of_plan images plan meaning read is e = file_means (AreOwn old) until file gave.0 gave.1 text (Ok images) meaning gave.2 (own_read (Ok images) read) (ap (machine_of_plan images) (sym is) ∙ e)
 
-  pub job_means : (images : List Image) (plan : PlanTables) (r : Result Job Refusal) → AreRead (AreOwn now) tables (Ok images) → plan ≡ with_budget options.until text → IfOk r (λ job. job_of_plan images options plan ≡ Ok job) → IfOk r (λ job. MeansFile (AreOwn old) options file (Ok job))
-  job_means images plan (Ok job) read is e = means_of_plan images plan (Ok job) read is e
-  job_means images plan (Err refusal) read is e = tt
+  pub plan_means : (images : List Image) (plan : PlanTables) (r : Result Machine Refusal) → AreRead (AreOwn now) tables (Ok images) → plan ≡ with_budget until text → IfOk r (λ machine. machine_of_plan images plan ≡ Ok machine) → IfOk r (λ machine. MeansFile (AreOwn old) until file (Ok machine))
+  plan_means images plan (Ok machine) read is e = means_of_plan images plan (Ok machine) read is e
+  plan_means images plan (Err refusal) read is e = tt
 
-  pub fault_of_plan : (images : List Image) (plan : PlanTables) (Q : List ℕ → Type 0) (r : Result Job Refusal) → AreRead (AreOwn now) tables (Ok images) → plan ≡ with_budget options.until text → IfErr r (IsFaultOfPlan (λ rule. job_of_plan images options plan ≡ Err rule)) → IfErr r (IsFaultOfFile Q (λ rule. MeansFile (AreOwn old) options file (Err rule)))
-  fault_of_plan images plan Q (Ok job) read is fault = tt
-  fault_of_plan images plan Q (Err r) read is fault = file_from_plan Q (λ rule. job_of_plan images options plan ≡ Err rule) (λ rule. MeansFile (AreOwn old) options file (Err rule)) (λ rule e. means_of_plan images plan (Err rule) read is e) r fault
+  pub fault_of_plan : (images : List Image) (plan : PlanTables) (Q : List ℕ → Type 0) (r : Result Machine Refusal) → AreRead (AreOwn now) tables (Ok images) → plan ≡ with_budget until text → IfErr r (IsFaultOfPlan (λ rule. machine_of_plan images plan ≡ Err rule)) → IfErr r (IsFaultOfFile Q (λ rule. MeansFile (AreOwn old) until file (Err rule)))
+  fault_of_plan images plan Q (Ok machine) read is fault = tt
+  fault_of_plan images plan Q (Err r) read is fault = file_from_plan Q (λ rule. machine_of_plan images plan ≡ Err rule) (λ rule. MeansFile (AreOwn old) until file (Err rule)) (λ rule e. means_of_plan images plan (Err rule) read is e) r fault
 
 -- the programs of a text do not depend on its budget
 pub same_programs : (until : Option Time) (text : PlanTables) → (with_budget until text).programs ≡ text.programs

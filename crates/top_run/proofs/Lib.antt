@@ -1,5 +1,7 @@
 pub mod WordRefusals
 pub mod CommandRefusals
+pub mod Questions
+pub mod ShowRefusals
 pub mod Loading
 pub mod Jobs
 pub mod Causes

@@ -13,12 +13,14 @@ use Rattle.elf_load.specs.declared.image.Image.{Image}
 use Rattle.top_run.specs.declared.program_breach.ProgramRule.{ProgramRule}
 use Rattle.top_run.specs.declared.program_breach.ProgramRule.TheVariants.{Format}
 use Rattle.top_run.specs.declared.program_breach.ProgramBreach.{ProgramBreach}
-use Rattle.top_run.specs.declared.command.Options.{Options}
+use Rattle.sim_base.specs.declared.time.Time.{Time}
 use Rattle.top_run.specs.declared.command.Command.{Command}
 use Rattle.top_run.specs.declared.command.Command.TheVariants as commands
+use Rattle.top_run.specs.declared.machine.Machine.{Machine}
 use Rattle.top_run.specs.declared.job.Job.{Job}
-use Rattle.top_run.specs.Words.{no_options}
-use Rattle.top_run.specs.Job.{Rule, Config, AreOwn, AreTold, IsImageOf, job_of_programs, IsProgramIn, AreLoaded, BreaksFormat, IsNext, AreRead, IsProgramName, MeansText, MeansFile, MeansCommand, IsNameOfText, IsNameOfFile}
+use Rattle.top_run.specs.declared.run.Engine.TheVariants.{Sleeping, Serial}
+use Rattle.top_run.proofs.WordRefusals.{within}
+use Rattle.top_run.specs.Job.{Rule, Config, AreOwn, AreTold, IsImageOf, machine_of_programs, run_with, checked, shown, done_with, IsProgramIn, AreLoaded, BreaksFormat, IsNext, AreRead, IsProgramName, MeansText, MeansFile, MeansJob, MeansCommand, IsNameOfText, IsNameOfFile}
 
 -- a program's fields
 abbrev Fields : Type 0
@@ -59,11 +61,6 @@ loaded_more gives [] [] table image loaded here is = absurd (cc)
 loaded_more gives (t ∷ ts) [] table image loaded here is = (subst (λ (x : ProgramTable). IsProgramIn gives x.file image) (let same : table ≡ t = cc in same) is, tt)
 loaded_more gives [] (i ∷ is) table image loaded here has = absurd loaded
 loaded_more gives (t ∷ ts) (i ∷ is) table image (first, loaded) here has = (first, loaded_more gives ts is table image loaded here has)
-
-pub within : {A : Type 0} (xs : List A) (k : ℕ) (x : A) → slice_get xs k ≡ Some x → k < length xs
-within [] k x e = absurd (cc)
-within (y ∷ ys) zero x e = omega arith
-within (y ∷ ys) (suc k) x e = (let b = within ys k x e in omega (arith, b))
 
 pub item_at : {A : Type 0} (xs : List A) (k : ℕ) (d : A) → k < length xs → slice_get xs k ≡ Some (get_or xs k d)
 item_at [] k d b = absurd (omega arith)
@@ -149,30 +146,42 @@ module _ (told given : List ℕ → List ℕ → Type 0) (same : (name a b : Lis
       let rows : table ≡ row = cc in
       ap (λ b. Err b) (broken_same row.file x y (subst (λ (t : ProgramTable). BreaksFormat told t.file x) rows breaks) fails (number ∙ place ∙ sym count))
 
-  text_same : (options : Options) (text : Result PlanTables ConfigFault) (x y : Result Job Rule) → MeansText told options text x → MeansText given options text y → x ≡ y
-  text_same options (Ok text) x y (r, a, e) (s, b, f) = sym e ∙ ap (λ read. job_of_programs read options text) (read_same text.programs r s a b) ∙ f
-  text_same options (Err fault) x y e f = sym e ∙ f
+  text_same : (until : Option Time) (text : Result PlanTables ConfigFault) (x y : Result Machine Rule) → MeansText told until text x → MeansText given until text y → x ≡ y
+  text_same until (Ok text) x y (r, a, e) (s, b, f) = sym e ∙ ap (λ read. machine_of_programs read until text) (read_same text.programs r s a b) ∙ f
+  text_same until (Err fault) x y e f = sym e ∙ f
 
-  file_same : (options : Options) (file : List ℕ) (x y : Result Job Rule) → MeansFile told options file x → MeansFile given options file y → x ≡ y
-  file_same options file x y (a, tells, m) (b, gave, n) = text_same options (config_of b) x y (subst (λ bytes. MeansText told options (config_of bytes) x) (same file a b tells gave) m) n
+  file_same : (until : Option Time) (file : List ℕ) (x y : Result Machine Rule) → MeansFile told until file x → MeansFile given until file y → x ≡ y
+  file_same until file x y (a, tells, m) (b, gave, n) = text_same until (config_of b) x y (subst (λ bytes. MeansText told until (config_of bytes) x) (same file a b tells gave) m) n
+
+  job_same : (work : Machine → Result Job Rule) (until : Option Time) (file : List ℕ) (x y : Result Job Rule) → MeansJob told work until file x → MeansJob given work until file y → x ≡ y
+  job_same work until file x y (m, a, e) (n, b, f) = sym e ∙ ap (done_with work) (file_same until file m n a b) ∙ f
 
   pub command_same : (c : Command) (x y : Result Job Rule) → MeansCommand told c x → MeansCommand given c y → x ≡ y
   command_same (commands.Ring ring) x y a b = sym a ∙ b
-  command_same (commands.Check file) x y a b = file_same no_options file x y a b
-  command_same (commands.Run file options) x y a b = file_same options file x y a b
-  command_same (commands.Slow file options) x y a b = file_same options file x y a b
+  command_same (commands.Check file) x y a b = job_same checked None file x y a b
+  command_same (commands.Run file options) x y a b = job_same (run_with Sleeping options) options.until file x y a b
+  command_same (commands.Slow file options) x y a b = job_same (run_with Serial options) options.until file x y a b
+  command_same (commands.Show file at question) x y a b = job_same (shown question) (Some at) file x y a b
 
 -- what is told is what was given
 pub told_own : (contents : List ℕ → Option (List ℕ)) (name a b : List ℕ) → AreTold contents name a → AreOwn contents name b → a ≡ b
 told_own contents name a b tells own = sym (subst (λ o. IfSome o (λ own. b ≡ own)) tells own)
 
 -- what a file means that gave a text, from what its programs came to
-module _ (gives : List ℕ → List ℕ → Type 0) (options : Options) (file bytes : List ℕ) (given : gives file bytes) where
-  pub file_means : (text : PlanTables) (read : Result (List Image) ProgramBreach) (meaning : Result Job Rule) → config_of bytes ≡ Ok text → AreRead gives text.programs read → job_of_programs read options text ≡ meaning → MeansFile gives options file meaning
-  file_means text read meaning is a e = (bytes, given, subst (λ t. MeansText gives options t meaning) (sym is) (read, a, e))
+module _ (gives : List ℕ → List ℕ → Type 0) (until : Option Time) (file bytes : List ℕ) (given : gives file bytes) where
+  pub file_means : (text : PlanTables) (read : Result (List Image) ProgramBreach) (meaning : Result Machine Rule) → config_of bytes ≡ Ok text → AreRead gives text.programs read → machine_of_programs read until text ≡ meaning → MeansFile gives until file meaning
+  file_means text read meaning is a e = (bytes, given, subst (λ t. MeansText gives until t meaning) (sym is) (read, a, e))
 
-  pub fault_means : (fault : ConfigFault) → config_of bytes ≡ Err fault → MeansFile gives options file (Err (Config fault))
-  fault_means fault is = (bytes, given, subst (λ t. MeansText gives options t (Err (Config fault))) (sym is) refl)
+  pub fault_means : (fault : ConfigFault) → config_of bytes ≡ Err fault → MeansFile gives until file (Err (Config fault))
+  fault_means fault is = (bytes, given, subst (λ t. MeansText gives until t (Err (Config fault))) (sym is) refl)
 
   pub name_means : (text : PlanTables) (name : List ℕ) → config_of bytes ≡ Ok text → IsProgramName gives text.programs name → IsNameOfFile gives file name
   name_means text name is a = inr (bytes, given, subst (λ t. IsNameOfText gives t name) (sym is) a)
+
+-- what is done with the machine of a file
+module _ (gives : List ℕ → List ℕ → Type 0) (work : Machine → Result Job Rule) (until : Option Time) (file : List ℕ) where
+  pub machine_means : (machine : Machine) (meaning : Result Job Rule) → MeansFile gives until file (Ok machine) → work machine ≡ meaning → MeansJob gives work until file meaning
+  machine_means machine meaning is e = (Ok machine, is, e)
+
+  pub rule_means : (rule : Rule) → MeansFile gives until file (Err rule) → MeansJob gives work until file (Err rule)
+  rule_means rule is = (Err rule, is, refl)

@@ -1,6 +1,6 @@
 -- No two commands are written alike, so that what a run of the words leaves is told by their command.
 use Rattle.std.proofs.Common.{◌≡◌, ℕ, ◌≤◌, List, [], ◌∷◌, ◌⊎◌, inr, refl, sym, ap, subst, ◌∙◌, arith}
-use Rattle.std.specs.Prelude.{Option, codes, flat_map, IfSome, Result, Ok, Err}
+use Rattle.std.specs.Prelude.{Option, codes, flat_map, get_or, IfSome, Result, Ok, Err}
 use Rattle.std.specs.Fmt.{decimal}
 use Rattle.std.proofs.lemmas.Fmt.{decimal_injective}
 use Rattle.sim_io.specs.Sink.{Got}
@@ -11,10 +11,14 @@ use Rattle.top_run.specs.declared.command.Detail.TheVariants.{Trace, Stats, Dump
 use Rattle.top_run.specs.declared.command.Command.{Command}
 use Rattle.top_run.specs.declared.command.Command.TheVariants as commands
 use Rattle.top_run.specs.declared.job.Job.{Job}
-use Rattle.top_run.specs.Words.{latest, Setting, Until, Shows, setting_words, detail_word, with_detail, with_setting, no_options, Lead, AreSettings, AreRing, command_word, AreBehind, Accepts, RefusedAt}
+use Rattle.sim_base.specs.declared.time.Time.{Time}
+use Rattle.plan_show.specs.declared.question.Question.{Question}
+use Rattle.top_run.specs.Words.{latest, Setting, Until, Shows, setting_words, detail_word, with_detail, with_setting, no_options, Lead, AreSettings, AreRing, AreShow, question_words, command_word, AreBehind, Accepts, RefusedAt}
 use Rattle.top_run.specs.Job.{Rule, AreOwn, AreTold, Means, IsTold, IsWithin}
-use Rattle.top_run.specs.Top.{engine_of, job_status, job_written, HasRun, SomeFile, SomeJob, ReadFailed, SomeReadFailed}
+use Rattle.top_run.specs.Top.{job_status, job_written, HasRun, SomeFile, SomeJob, ReadFailed, SomeReadFailed}
 use Rattle.top_run.proofs.CommandRefusals.{ring_of, differ, detail_same, not_until}
+use Rattle.top_run.proofs.Questions.{question_same}
+use Rattle.top_run.proofs.ShowRefusals.{time_of}
 use Rattle.top_run.proofs.Loading.{command_same, told_own}
 
 -- the same numbers
@@ -48,15 +52,26 @@ settings_same (Until n ∷ ss) (Until m ∷ tt) before o p e (_, within, a) (_, 
 options_same : (rest : List (List ℕ)) (before o p : Options) → AreSettings before o rest → AreSettings before p rest → o ≡ p
 options_same rest before o p (ss, e, a) (ts, f, b) = settings_same ss ts before o p (sym e ∙ f) a b
 
+-- the same file, time and question
+show_same : (rest : List (List ℕ)) (f g : List ℕ) (a b : Time) (p q : Question) → AreShow f a p rest → AreShow g b q rest → commands.Show f a p ≡ commands.Show g b q
+show_same rest f g a b p q (e, _, within) (h, _, near) =
+    let file : f ≡ g = cc in
+    let time : decimal a.0 ≡ decimal b.0 = cc in
+    let asked : question_words p ≡ question_words q = cc in
+    let at : a.0 ≡ b.0 = decimal_injective a.0 b.0 (omega (arith, within)) (omega (arith, near)) time in
+    ap (λ x. commands.Show x a p) file ∙ ap (λ t. commands.Show g (time_of t) p) at ∙ ap (λ x. commands.Show g b x) (question_same p q asked)
+
 behind_same : (c d : Command) (rest : List (List ℕ)) → command_word c ≡ command_word d → AreBehind c rest → AreBehind d rest → c ≡ d
 behind_same (commands.Ring r) (commands.Ring q) rest e a b = ap (λ x. commands.Ring x) (ring_same rest r q a b)
 behind_same (commands.Ring r) (commands.Check g) rest e a b = differ (codes "ring") (codes "check") (λ h. omega (arith, h)) e
 behind_same (commands.Ring r) (commands.Run g p) rest e a b = absurd (cc)
 behind_same (commands.Ring r) (commands.Slow g p) rest e a b = differ (codes "ring") (codes "slow") (λ h. omega (arith, h)) e
+behind_same (commands.Ring r) (commands.Show g b q) rest e x y = differ (codes "ring") (codes "show") (λ h. omega (arith, h)) e
 behind_same (commands.Check f) (commands.Ring q) rest e a b = differ (codes "check") (codes "ring") (λ h. omega (arith, h)) e
 behind_same (commands.Check f) (commands.Check g) rest e (a, _) (b, _) = let same : f ≡ g = cc in ap (λ x. commands.Check x) same
 behind_same (commands.Check f) (commands.Run g p) rest e a b = differ (codes "check") (codes "run") (λ h. omega (arith, h)) e
 behind_same (commands.Check f) (commands.Slow g p) rest e a b = differ (codes "check") (codes "slow") (λ h. omega (arith, h)) e
+behind_same (commands.Check f) (commands.Show g b q) rest e x y = differ (codes "check") (codes "show") (λ h. omega (arith, h)) e
 behind_same (commands.Run f o) (commands.Ring q) rest e a b = absurd (cc)
 behind_same (commands.Run f o) (commands.Check g) rest e a b = differ (codes "run") (codes "check") (λ h. omega (arith, h)) e
 behind_same (commands.Run f o) (commands.Run g p) rest e (s, a, _, x) (t, b, _, y) =
@@ -65,6 +80,7 @@ behind_same (commands.Run f o) (commands.Run g p) rest e (s, a, _, x) (t, b, _, 
     let options : o ≡ p = options_same t no_options o p (subst (λ l. AreSettings no_options o l) same x) y in
     ap (λ z. commands.Run z o) file ∙ ap (λ z. commands.Run g z) options
 behind_same (commands.Run f o) (commands.Slow g p) rest e a b = differ (codes "run") (codes "slow") (λ h. omega (arith, h)) e
+behind_same (commands.Run f o) (commands.Show g b q) rest e x y = differ (codes "run") (codes "show") (λ h. omega (arith, h)) e
 behind_same (commands.Slow f o) (commands.Ring q) rest e a b = differ (codes "slow") (codes "ring") (λ h. omega (arith, h)) e
 behind_same (commands.Slow f o) (commands.Check g) rest e a b = differ (codes "slow") (codes "check") (λ h. omega (arith, h)) e
 behind_same (commands.Slow f o) (commands.Run g p) rest e a b = differ (codes "slow") (codes "run") (λ h. omega (arith, h)) e
@@ -73,6 +89,12 @@ behind_same (commands.Slow f o) (commands.Slow g p) rest e (s, a, _, x) (t, b, _
     let same : s ≡ t = cc in
     let options : o ≡ p = options_same t no_options o p (subst (λ l. AreSettings no_options o l) same x) y in
     ap (λ z. commands.Slow z o) file ∙ ap (λ z. commands.Slow g z) options
+behind_same (commands.Slow f o) (commands.Show g b q) rest e x y = let second : 108 ≡ 104 = ap (λ l. get_or l 1 0) e in absurd (omega (arith, second))
+behind_same (commands.Show f a p) (commands.Ring q) rest e x y = differ (codes "show") (codes "ring") (λ h. omega (arith, h)) e
+behind_same (commands.Show f a p) (commands.Check g) rest e x y = differ (codes "show") (codes "check") (λ h. omega (arith, h)) e
+behind_same (commands.Show f a p) (commands.Run g o) rest e x y = differ (codes "show") (codes "run") (λ h. omega (arith, h)) e
+behind_same (commands.Show f a p) (commands.Slow g o) rest e x y = let second : 104 ≡ 108 = ap (λ l. get_or l 1 0) e in absurd (omega (arith, second))
+behind_same (commands.Show f a p) (commands.Show g b q) rest e x y = show_same rest f g a b p q x y
 
 pub accepted_same : (words : List (List ℕ)) (c d : Command) → Accepts words c → Accepts words d → c ≡ d
 accepted_same words c d (s, e, a) (t, f, b) =
@@ -84,16 +106,13 @@ accepted_same words c d (s, e, a) (t, f, b) =
 pub meaning_same : (contents : List ℕ → Option (List ℕ)) (c : Command) (x y : Result Job Rule) → IsTold contents c x → Means contents c y → y ≡ x
 meaning_same contents c x y told means = sym (command_same (AreTold contents) (AreOwn contents) (told_own contents) c x y told means)
 
-pub completed : (contents : List ℕ → Option (List ℕ)) (words : List (List ℕ)) (status : ℕ) (old new : Option (List ℕ)) (before after : ℕ) (c : Command) (job : Job) → Accepts words c → IsTold contents c (Ok job) → HasRun contents words status old new before after → (status ≡ 8) ⊎ ((status ≡ job_status (engine_of c) job) × Got old new (job_written (engine_of c) job))
+pub completed : (contents : List ℕ → Option (List ℕ)) (words : List (List ℕ)) (status : ℕ) (old new : Option (List ℕ)) (before after : ℕ) (c : Command) (job : Job) → Accepts words c → IsTold contents c (Ok job) → HasRun contents words status old new before after → (status ≡ 8) ⊎ ((status ≡ job_status job) × Got old new (job_written job))
 completed contents words status old new before after c job accepts told h =
     let same : h.command ≡ c = accepted_same words h.command c h.is_job.accepts accepts in
     let means : Means contents c (Ok h.job) = subst (λ d. Means contents d (Ok h.job)) same h.is_job.means in
     let equal : Ok h.job ≡ Ok job = meaning_same contents c (Ok job) (Ok h.job) told means in
     let jobs : h.job ≡ job = cc in
-    inr (
-      h.status_is ∙ ap (λ d. job_status (engine_of d) h.job) same ∙ ap (λ j. job_status (engine_of c) j) jobs,
-      subst (λ j. Got old new (job_written (engine_of c) j)) jobs (subst (λ d. Got old new (job_written (engine_of d) h.job)) same h.written),
-    )
+    inr (h.status_is ∙ ap job_status jobs, subst (λ j. Got old new (job_written j)) jobs h.written)
 
 -- a file that breaks a rule is not run
 pub not_run : {A : Type 0} (contents : List ℕ → Option (List ℕ)) (words : List (List ℕ)) (status : ℕ) (old new : Option (List ℕ)) (before after : ℕ) (c : Command) (rule : Rule) → Accepts words c → IsTold contents c (Err rule) → HasRun contents words status old new before after → A
@@ -139,6 +158,7 @@ accepted_within words (commands.Ring r) (rest, e, (f, range)) = range
 accepted_within words (commands.Check f) a = tt
 accepted_within words (commands.Run f o) (rest, e, (more, g, file, (ss, h, lead))) = within_from ss no_options o lead tt
 accepted_within words (commands.Slow f o) (rest, e, (more, g, file, (ss, h, lead))) = within_from ss no_options o lead tt
+accepted_within words (commands.Show f at q) (rest, e, (g, file, within)) = within
 
 -- accepted words are not refused
 pub refused_none : {A : Type 0} (words : List (List ℕ)) (k : ℕ) (c : Command) → Accepts words c → RefusedAt words k → A

@@ -124,6 +124,12 @@ got_none [] k b = refl
 got_none (y ∷ ys) zero b = absurd (omega (arith, b))
 got_none (y ∷ ys) (suc k) b = got_none ys k (omega (arith, b))
 
+-- a list is longer than the place of an item
+pub within : {A : Type 0} (xs : List A) (k : ℕ) (x : A) → slice_get xs k ≡ Some x → k < length xs
+within [] k x e = absurd (cc)
+within (y ∷ ys) zero x e = omega arith
+within (y ∷ ys) (suc k) x e = (let b = within ys k x e in omega (arith, b))
+
 -- no word stands from a place on
 pub drop_all : {A : Type 0} (xs : List A) (k : ℕ) → length xs ≤ k → drop k xs ≡ []
 drop_all [] zero b = refl
@@ -138,6 +144,7 @@ usage_map fact other (refusals.Read file) f is = is
 usage_map fact other (refusals.Config fault) f is = is
 usage_map fact other (refusals.Program breach) f is = is
 usage_map fact other (refusals.Plan breach) f is = is
+usage_map fact other (refusals.Name unknown) f is = is
 usage_map fact other refusals.Write f is = is
 usage_map fact other (refusals.WriteAt d) f is = is
 usage_map fact other refusals.OutOfMemory f is = is

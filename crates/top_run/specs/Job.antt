@@ -1,4 +1,4 @@
--- What a command and its files mean: the machine that is run, or the first rule that a file breaks.
+-- What a command and its files mean: a machine and what is done with it, or the first rule that a file breaks.
 use Rattle.std.specs.Prelude.{◌≡◌, ℕ, ◌≤◌, ◌⊎◌, List, [], ◌∷◌, length, slice_get, Option, Some, None, IfSome, option_map, Result, Ok, Err}
 use Rattle.sim_base.specs.declared.time.Time.{Time}
 use Rattle.sim_config.specs.Tables.{PlanTables, ProgramTable}
@@ -19,16 +19,28 @@ use Rattle.top_run.specs.declared.program_breach.ProgramRule.TheVariants.{Format
 use Rattle.top_run.specs.declared.refusal.Refusal.{Refusal}
 use Rattle.top_run.specs.declared.refusal.Refusal.TheVariants as refusals
 use Rattle.top_run.specs.Words.{latest, InRange, no_options}
+use Rattle.world_query.specs.declared.query.Query.{Query}
+use Rattle.plan_show.specs.declared.question.Question.{Question}
+use Rattle.plan_show.specs.declared.question.Unknown.{Unknown}
+use Rattle.plan_show.specs.Question.{query_in}
+use Rattle.world_query.specs.Legend.{legend_of, IsQueryOf}
+use Rattle.top_run.specs.declared.machine.Machine.{Machine}
 use Rattle.top_run.specs.declared.job.Job.{Job}
+use Rattle.top_run.specs.declared.job.Work.{Work}
+use Rattle.top_run.specs.declared.job.Work.TheVariants as works
+use Rattle.top_run.specs.declared.run.Engine.{Engine}
+use Rattle.top_run.specs.declared.run.Engine.TheVariants.{Sleeping, Serial}
 use Rattle.top_run.specs.declared.command.Options.{Options}
 use Rattle.top_run.specs.declared.command.Command.{Command}
 use Rattle.top_run.specs.declared.command.Command.TheVariants as commands
 
--- a rule of configurations, of programs or of plans that a file breaks, with its place
+-- a rule of configurations, of programs or of plans that a file breaks, with its place; or a name of the words that is that of no
+-- part, or of no field of the part, of the file's machine
 pub data Rule : Type 0 where
   Config : ConfigFault → Rule
   Program : ProgramBreach → Rule
   Plan : Breach → Rule
+  Name : Unknown → Rule
 
 -- the bytes are those of the file of a name, where the files tell them
 abbrev pub AreOwn : (List ℕ → Option (List ℕ)) → List ℕ → List ℕ → Type 0
@@ -58,25 +70,52 @@ abbrev pub with_budget : Option Time → PlanTables → PlanTables
 with_budget None text = text
 with_budget (Some t) text = record { until = t; maps = text.maps; parts = text.parts; links = text.links; programs = text.programs }
 
--- the machine of a text with its programs and the options of its run, or the first segment that has a byte without a port: its
--- program and the place of its address
-abbrev pub job_unmapped : Option (ℕ × ℕ) → List Image → Options → PlanTables → Result Job Rule
-job_unmapped None images options text = Ok (record { plan = plan_of text images; programs = length text.programs; options = options })
-job_unmapped (Some place) images options text = Err (Program (record { program = place.0; rule = SegmentUnmapped; at = place.1 }))
+-- the machine of a text with its programs, or the first segment that has a byte without a port: its program and the place of its
+-- address
+abbrev pub machine_unmapped : Option (ℕ × ℕ) → List Image → PlanTables → Result Machine Rule
+machine_unmapped None images text = Ok (record { plan = plan_of text images; programs = length text.programs })
+machine_unmapped (Some place) images text = Err (Program (record { program = place.0; rule = SegmentUnmapped; at = place.1 }))
 
--- the job of a text with its programs, or the rule of plans that it breaks first
-abbrev pub job_unless : Option Breach → List Image → Options → PlanTables → Result Job Rule
-job_unless None images options text = job_unmapped (option_map (λ place. (place.program, place.at)) (first_unmapped text images)) images options text
-job_unless (Some breach) images options text = Err (Plan breach)
+-- the machine of a text with its programs, or the rule of plans that it breaks first
+abbrev pub machine_unless : Option Breach → List Image → PlanTables → Result Machine Rule
+machine_unless None images text = machine_unmapped (option_map (λ place. (place.program, place.at)) (first_unmapped text images)) images text
+machine_unless (Some breach) images text = Err (Plan breach)
 
--- the job of a text with its programs, whose budget is the one that runs
-abbrev pub job_of_plan : List Image → Options → PlanTables → Result Job Rule
-job_of_plan images options text = job_unless (first_broken text) images options text
+-- the machine of a text with its programs, whose budget is the one that runs
+abbrev pub machine_of_plan : List Image → PlanTables → Result Machine Rule
+machine_of_plan images text = machine_unless (first_broken text) images text
 
--- the job of a text with the programs that were loaded for it, or the rule that one of them breaks
-abbrev pub job_of_programs : Result (List Image) ProgramBreach → Options → PlanTables → Result Job Rule
-job_of_programs (Ok images) options text = job_of_plan images options (with_budget options.until text)
-job_of_programs (Err breach) options text = Err (Program breach)
+-- the machine of a text with the programs that were loaded for it, or the rule that one of them breaks
+abbrev pub machine_of_programs : Result (List Image) ProgramBreach → Option Time → PlanTables → Result Machine Rule
+machine_of_programs (Ok images) until text = machine_of_plan images (with_budget until text)
+machine_of_programs (Err breach) until text = Err (Program breach)
+
+-- what is done with a machine: it is run by an engine with options
+abbrev pub run_with : Engine → Options → Machine → Result Job Rule
+run_with engine options machine = Ok (record { machine = machine; work = works.Run engine options })
+
+-- or a line tells of it
+abbrev pub checked : Machine → Result Job Rule
+checked machine = Ok (record { machine = machine; work = works.Check })
+
+-- or a question about it is answered, where it has the names of the question
+abbrev pub answered : Result Query Unknown → Machine → Result Job Rule
+answered (Ok query) machine = Ok (record { machine = machine; work = works.Show query })
+answered (Err unknown) machine = Err (Name unknown)
+
+abbrev pub shown : Question → Machine → Result Job Rule
+shown question machine = answered (query_in machine.plan question) machine
+
+-- and this is done where there is a machine
+abbrev pub done_with : (Machine → Result Job Rule) → Result Machine Rule → Result Job Rule
+done_with work (Ok machine) = work machine
+done_with work (Err rule) = Err rule
+
+-- a query is one about the machine
+abbrev pub IsWorkOf : Machine → Work → Type 0
+IsWorkOf machine (works.Run engine options) = Unit {0}
+IsWorkOf machine works.Check = Unit {0}
+IsWorkOf machine (works.Show query) = IsQueryOf (legend_of machine.plan) query
 
 -- the budget that a command gives in place of its file's is one that a file may have
 abbrev pub IsWithin : Command → Type 0
@@ -84,6 +123,7 @@ IsWithin (commands.Ring ring) = InRange ring
 IsWithin (commands.Check file) = Unit {0}
 IsWithin (commands.Run file options) = IfSome options.until (λ t. t.0 ≤ latest)
 IsWithin (commands.Slow file options) = IfSome options.until (λ t. t.0 ≤ latest)
+IsWithin (commands.Show file at question) = at.0 ≤ latest
 
 -- what files mean that give bytes by their names
 module _ (gives : List ℕ → List ℕ → Type 0) where
@@ -111,21 +151,26 @@ module _ (gives : List ℕ → List ℕ → Type 0) where
   AreRead tables (Ok images) = AreLoaded tables images × (length images ≡ length tables)
   AreRead tables (Err breach) = (before : List Image) × (table : ProgramTable) × IsNext tables before table × (breach.program ≡ length before) × BreaksFormat table.file breach
 
-  -- what a text means, or the rule of configurations that its file breaks
-  abbrev pub MeansText : Options → Result PlanTables ConfigFault → Result Job Rule → Type 0
-  MeansText options (Ok text) meaning = (read : Result (List Image) ProgramBreach) × AreRead text.programs read × (job_of_programs read options text ≡ meaning)
-  MeansText options (Err fault) meaning = Err (Config fault) ≡ meaning
+  -- the machine of a text, or the first rule that is broken; its file may break a rule of configurations
+  abbrev pub MeansText : Option Time → Result PlanTables ConfigFault → Result Machine Rule → Type 0
+  MeansText until (Ok text) meaning = (read : Result (List Image) ProgramBreach) × AreRead text.programs read × (machine_of_programs read until text ≡ meaning)
+  MeansText until (Err fault) meaning = Err (Config fault) ≡ meaning
 
-  -- what a file means: its rules of configurations come first, then the programs that it names, then the rules of plans
-  abbrev pub MeansFile : Options → List ℕ → Result Job Rule → Type 0
-  MeansFile options file meaning = (bytes : List ℕ) × gives file bytes × MeansText options (config_of bytes) meaning
+  -- the machine of a file: its rules of configurations come first, then the programs that it names, then the rules of plans
+  abbrev pub MeansFile : Option Time → List ℕ → Result Machine Rule → Type 0
+  MeansFile until file meaning = (bytes : List ℕ) × gives file bytes × MeansText until (config_of bytes) meaning
 
-  -- what a command means; a ring has no file
+  -- what a file means with whose machine something is done
+  abbrev pub MeansJob : (Machine → Result Job Rule) → Option Time → List ℕ → Result Job Rule → Type 0
+  MeansJob work until file meaning = (made : Result Machine Rule) × MeansFile until file made × (done_with work made ≡ meaning)
+
+  -- what a command means; a ring has no file, and the time of `show` is the budget
   abbrev pub MeansCommand : Command → Result Job Rule → Type 0
-  MeansCommand (commands.Ring ring) meaning = Ok (record { plan = ring_plan ring.relays ring.until.0; programs = 0; options = no_options }) ≡ meaning
-  MeansCommand (commands.Check file) meaning = MeansFile no_options file meaning
-  MeansCommand (commands.Run file options) meaning = MeansFile options file meaning
-  MeansCommand (commands.Slow file options) meaning = MeansFile options file meaning
+  MeansCommand (commands.Ring ring) meaning = run_with Sleeping no_options (record { plan = ring_plan ring.relays ring.until.0; programs = 0 }) ≡ meaning
+  MeansCommand (commands.Check file) meaning = MeansJob checked None file meaning
+  MeansCommand (commands.Run file options) meaning = MeansJob (run_with Sleeping options) options.until file meaning
+  MeansCommand (commands.Slow file options) meaning = MeansJob (run_with Serial options) options.until file meaning
+  MeansCommand (commands.Show file at question) meaning = MeansJob (shown question) (Some at) file meaning
 
   -- the name of a program's file that is read
   abbrev pub IsProgramName : List ProgramTable → List ℕ → Type 0
@@ -146,6 +191,7 @@ module _ (gives : List ℕ → List ℕ → Type 0) where
   IsNameOf (commands.Check file) name = IsNameOfFile file name
   IsNameOf (commands.Run file options) name = IsNameOfFile file name
   IsNameOf (commands.Slow file options) name = IsNameOfFile file name
+  IsNameOf (commands.Show file at question) name = IsNameOfFile file name
 
 -- it means this for the bytes that were read, which are those of the files where the files tell them
 abbrev pub Means : (List ℕ → Option (List ℕ)) → Command → Result Job Rule → Type 0
@@ -186,3 +232,9 @@ IsFaultOfPlan rule (refusals.Program breach) = rule (Program breach)
 IsFaultOfPlan rule (refusals.Plan breach) = rule (Plan breach)
 IsFaultOfPlan rule refusals.OutOfMemory = Unit {0}
 IsFaultOfPlan rule refusal = ⊥
+
+-- where a question is looked at: a name is unknown, or no memory was found
+abbrev pub IsFaultOfName : (Unknown → Type 0) → Refusal → Type 0
+IsFaultOfName rule (refusals.Name unknown) = rule unknown
+IsFaultOfName rule refusals.OutOfMemory = Unit {0}
+IsFaultOfName rule refusal = ⊥

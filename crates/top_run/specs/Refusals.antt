@@ -6,6 +6,8 @@ use Rattle.sim_config.specs.Words as config
 use Rattle.elf_load.specs.Rule as elf
 use Rattle.plan_rules.specs.declared.breach.Breach.{Breach}
 use Rattle.plan_rules.specs.Words as plan
+use Rattle.plan_show.specs.declared.question.Unknown.{Unknown}
+use Rattle.plan_show.specs.declared.question.Unknown.TheVariants as unknown
 use Rattle.sim_io.specs.Sink.{Rose, Got, GotPrefix}
 use Rattle.top_run.specs.declared.program_breach.ProgramRule.{ProgramRule}
 use Rattle.top_run.specs.declared.program_breach.ProgramRule.TheVariants.{Format, SegmentUnmapped}
@@ -17,6 +19,11 @@ line_feed = 10 ∷ []
 -- the words are refused from word k on
 abbrev pub usage_line : ℕ → List ℕ
 usage_line k = codes "akita: usage: word " ++ decimal k ++ line_feed
+
+-- which word of `show FILE --at T part NAME` and `show FILE --at T field NAME FIELD` a name is
+abbrev pub name_place : Unknown → ℕ
+name_place unknown.Part = 6
+name_place unknown.Field = 7
 
 -- the file could not be read
 abbrev pub read_line : List ℕ → List ℕ

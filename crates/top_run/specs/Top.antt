@@ -22,15 +22,21 @@ use Rattle.run_gear.specs.declared.fault.RunFault.{RunFault}
 use Rattle.run_gear.specs.declared.fault.RunFault.TheVariants as faults
 use Rattle.top_run.specs.declared.command.Options.{Options}
 use Rattle.top_run.specs.declared.command.Command.{Command}
-use Rattle.top_run.specs.declared.command.Command.TheVariants as commands
 use Rattle.top_run.specs.declared.run.Engine.{Engine}
 use Rattle.top_run.specs.declared.run.Engine.TheVariants.{Sleeping, Serial}
 use Rattle.top_run.specs.declared.refusal.Refusal.{Refusal}
 use Rattle.top_run.specs.declared.refusal.Refusal.TheVariants as refusals
 use Rattle.top_run.specs.Words.{Accepts, RefusedAt}
+use Rattle.plan_show.specs.declared.question.Unknown.{Unknown}
+use Rattle.world_query.specs.declared.query.Query.{Query}
+use Rattle.world_query.specs.Legend.{legend_of}
+use Rattle.part_view.specs.Bodies.{body_of}
+use Rattle.top_run.specs.declared.machine.Machine.{Machine}
 use Rattle.top_run.specs.declared.job.Job.{Job}
-use Rattle.top_run.specs.Job.{Rule, Config, Program, Plan, AreOwn, IsNameOf, Means}
-use Rattle.top_run.specs.Refusals.{config_line, program_line, plan_line}
+use Rattle.top_run.specs.declared.job.Work.{Work}
+use Rattle.top_run.specs.declared.job.Work.TheVariants as works
+use Rattle.top_run.specs.Job.{Rule, Config, Program, Plan, Name, AreOwn, IsNameOf, Means}
+use Rattle.top_run.specs.Refusals.{line_feed, usage_line, name_place, config_line, program_line, plan_line}
 
 -- the serial loop's run of a plan, which ticks every actor at every edge up to the budget
 abbrev pub loop_of : PlanView Part LinkKind → System Part LinkKind
@@ -72,8 +78,12 @@ plan_steps Serial plan d = edges_below (loop_of plan) d
 abbrev pub check_numbers : ℕ → ℕ → ℕ → ℕ → ℕ → List ℕ
 check_numbers parts links ports programs until = codes "ok parts " ++ decimal parts ++ codes " links " ++ decimal links ++ codes " ports " ++ decimal ports ++ codes " programs " ++ decimal programs ++ codes " until " ++ decimal until ++ codes "\n"
 
-abbrev pub check_line : Job → List ℕ
-check_line job = check_numbers (length job.plan.parts) (length job.plan.links) (length job.plan.ports) job.programs job.plan.until
+abbrev pub check_line : Machine → List ℕ
+check_line machine = check_numbers (length machine.plan.parts) (length machine.plan.links) (length machine.plan.ports) machine.programs machine.plan.until
+
+-- the answer to a query about the world of the serial loop's run behind the last time, and a line feed
+abbrev pub shown_line : Query → PlanView Part LinkKind → List ℕ
+shown_line query plan = body_of (legend_of plan) query (world_at (loop_of plan) (plan.until + 1)) (plan.until + 1) ++ line_feed
 
 -- the status of a verdict
 abbrev pub status_of : Verdict → ℕ
@@ -81,40 +91,49 @@ status_of Finished = 0
 status_of Stuck = 10
 status_of Cut = 11
 
--- the engine by which a command runs its plan, and none for a check
-abbrev pub engine_of : Command → Option Engine
-engine_of (commands.Ring ring) = Some Sleeping
-engine_of (commands.Check file) = None
-engine_of (commands.Run file options) = Some Sleeping
-engine_of (commands.Slow file options) = Some Serial
+-- the status of what is done with a plan: that of its run's verdict, where its report is asked for
+abbrev pub status_by : Work → PlanView Part LinkKind → ℕ
+status_by (works.Run engine options) plan = status_of (plan_verdict plan)
+status_by works.Check plan = 0
+status_by (works.Show query) plan = 0
 
--- the status of a job: that of its run's verdict
-abbrev pub job_status : Option Engine → Job → ℕ
-job_status None job = 0
-job_status (Some engine) job = status_of (plan_verdict job.plan)
+-- the lines of its run below a boundary, where they are asked for
+abbrev pub lines_by : Work → PlanView Part LinkKind → ℕ → List ℕ
+lines_by (works.Run engine options) plan d = plan_lines options.trace plan d
+lines_by works.Check plan d = []
+lines_by (works.Show query) plan d = []
 
--- the lines of its run below a boundary
-abbrev pub job_lines : Option Engine → Job → ℕ → List ℕ
-job_lines None job d = []
-job_lines (Some engine) job d = plan_lines job.options.trace job.plan d
+-- what is written behind them: the report, the line of a check, or the answer to a query
+abbrev pub report_by : Work → Machine → List ℕ
+report_by (works.Run engine options) machine = plan_report options machine.plan
+report_by works.Check machine = check_line machine
+report_by (works.Show query) machine = shown_line query machine.plan
+
+-- the steps that are charged
+abbrev pub steps_by : Work → PlanView Part LinkKind → ℕ
+steps_by (works.Run engine options) plan = plan_steps engine plan (plan.until + 1)
+steps_by works.Check plan = 0
+steps_by (works.Show query) plan = plan_steps Sleeping plan (plan.until + 1)
+
+-- the status of a job
+abbrev pub job_status : Job → ℕ
+job_status job = status_by job.work job.machine.plan
 
 -- all its lines
-abbrev pub all_lines : Option Engine → Job → List ℕ
-all_lines engine job = job_lines engine job (job.plan.until + 1)
+abbrev pub all_lines : Job → List ℕ
+all_lines job = lines_by job.work job.machine.plan (job.machine.plan.until + 1)
 
--- what it writes behind them: the report, or the line of a check
-abbrev pub job_report : Option Engine → Job → List ℕ
-job_report None job = check_line job
-job_report (Some engine) job = plan_report job.options job.plan
+-- what it writes behind them
+abbrev pub job_report : Job → List ℕ
+job_report job = report_by job.work job.machine
 
 -- all that it writes
-abbrev pub job_written : Option Engine → Job → List ℕ
-job_written engine job = all_lines engine job ++ job_report engine job
+abbrev pub job_written : Job → List ℕ
+job_written job = all_lines job ++ job_report job
 
 -- the steps that it is charged for
-abbrev pub job_steps : Option Engine → Job → ℕ
-job_steps None job = 0
-job_steps (Some engine) job = plan_steps engine job.plan (job.plan.until + 1)
+abbrev pub job_steps : Job → ℕ
+job_steps job = steps_by job.work job.machine.plan
 
 -- the words are a command, and its file means a job
 pub record IsJob (contents : List ℕ → Option (List ℕ)) (words : List (List ℕ)) (command : Command) (job : Job) : Type 0 where
@@ -130,23 +149,32 @@ pub record HasRun (contents : List ℕ → Option (List ℕ)) (words : List (Lis
   pub command : Command
   pub job : Job
   pub is_job : IsJob contents words command job
-  pub status_is : status ≡ job_status (engine_of command) job
-  pub written : Got old new (job_written (engine_of command) job)
-  pub steps : after ≡ before + job_steps (engine_of command) job
+  pub status_is : status ≡ job_status job
+  pub written : Got old new (job_written job)
+  pub steps : after ≡ before + job_steps job
 
 -- a write of a line of the last time below boundary d failed: the object got the lines of all earlier times, and then a prefix of
 -- those of that time, which has one
 abbrev pub PlanFailed : Bool → PlanView Part LinkKind → Option (List ℕ) → Option (List ℕ) → ℕ → Type 0
 PlanFailed all plan old new d = (d ≤ plan.until + 1) × GotSomeLines plan (loop_of plan) all d old new
 
--- the same of a job; a check has no lines
-abbrev pub FailedAt : Option Engine → Job → Option (List ℕ) → Option (List ℕ) → ℕ → Type 0
-FailedAt None job old new d = ⊥
-FailedAt (Some engine) job old new d = PlanFailed job.options.trace job.plan old new d
+-- the same of what is done with a plan; a check and an answer have no lines
+abbrev pub FailedBy : Work → PlanView Part LinkKind → Option (List ℕ) → Option (List ℕ) → ℕ → Type 0
+FailedBy (works.Run engine options) plan old new d = PlanFailed options.trace plan old new d
+FailedBy works.Check plan old new d = ⊥
+FailedBy (works.Show query) plan old new d = ⊥
+
+-- and of a job
+abbrev pub FailedAt : Job → Option (List ℕ) → Option (List ℕ) → ℕ → Type 0
+FailedAt job old new d = FailedBy job.work job.machine.plan old new d
+
+-- the write of what stands behind some lines failed: the object got the lines, and a prefix of it
+abbrev pub Broke : List ℕ → List ℕ → Option (List ℕ) → Option (List ℕ) → Type 0
+Broke lines report old new = (held : Option (List ℕ)) × Got old held lines × GotPrefix held new report
 
 -- the write of the report failed: the object got all lines of the run, and a prefix of its report
-abbrev pub FailedBehind : Option Engine → Job → Option (List ℕ) → Option (List ℕ) → Type 0
-FailedBehind engine job old new = (held : Option (List ℕ)) × Got old held (all_lines engine job) × GotPrefix held new (job_report engine job)
+abbrev pub FailedBehind : Job → Option (List ℕ) → Option (List ℕ) → Type 0
+FailedBehind job old new = Broke (all_lines job) (job_report job) old new
 
 -- the words are some command, its file means a job, and this is true of both
 abbrev pub SomeJob : (List ℕ → Option (List ℕ)) → List (List ℕ) → (Command → Job → Type 0) → Type 0
@@ -165,12 +193,14 @@ abbrev pub rule_line : Rule → List ℕ
 rule_line (Config fault) = config_line fault
 rule_line (Program breach) = program_line breach
 rule_line (Plan breach) = plan_line breach
+rule_line (Name unknown) = usage_line (name_place unknown)
 
 -- and the status
 abbrev pub rule_status : Rule → ℕ
 rule_status (Config fault) = 3
 rule_status (Program breach) = 4
 rule_status (Plan breach) = 3
+rule_status (Name unknown) = 2
 
 -- what a refusal of a run of a plan says: a line was not written at a boundary, or no memory was found
 abbrev pub IsFaultOfRun : (ℕ → Type 0) → Type 0 → Refusal → Type 0
@@ -191,6 +221,7 @@ IsFaultOfFile read rule (refusals.Read file) = read file
 IsFaultOfFile read rule (refusals.Config fault) = rule (Config fault)
 IsFaultOfFile read rule (refusals.Program breach) = rule (Program breach)
 IsFaultOfFile read rule (refusals.Plan breach) = rule (Plan breach)
+IsFaultOfFile read rule (refusals.Name unknown) = rule (Name unknown)
 IsFaultOfFile read rule refusals.OutOfMemory = Unit {0}
 IsFaultOfFile read rule refusal = ⊥
 
@@ -198,11 +229,19 @@ IsFaultOfFile read rule refusal = ⊥
 abbrev pub SomeFile : List (List ℕ) → (Command → Type 0) → Type 0
 SomeFile words fact = (command : Command) × Accepts words command × fact command
 
--- the statuses of broken rules
+-- word k is the name of no part, or of no field of the part, of the machine of some command
+abbrev pub IsUnknownAt : (List ℕ → Option (List ℕ)) → List (List ℕ) → ℕ → Type 0
+IsUnknownAt contents words k = (unknown : Unknown) × (k ≡ name_place unknown) × SomeFile words (λ command. Means contents command (Err (Name unknown)))
+
+-- word k is refused: no accepted list of words has the same first k words, or it is an unknown name
+abbrev pub IsRefusedWord : (List ℕ → Option (List ℕ)) → List (List ℕ) → ℕ → Type 0
+IsRefusedWord contents words k = RefusedAt words k ⊎ IsUnknownAt contents words k
+
+-- the statuses of broken rules of files
 abbrev pub IsBroken : ℕ → Type 0
 IsBroken status = (status ≡ 3) ⊎ (status ≡ 4)
 
--- the statuses of refusals: of words, of rules and of readings
+-- the statuses of refusals: of words, of rules of files and of readings
 abbrev pub IsRefusal : ℕ → Type 0
 IsRefusal status = (status ≡ 2) ⊎ (IsBroken status ⊎ (status ≡ 5))
 
@@ -218,8 +257,9 @@ IsCause contents first last words before after old new (refusals.Read file) = So
 IsCause contents first last words before after old new (refusals.Config fault) = SomeFile words (λ command. Means contents command (Err (Config fault)))
 IsCause contents first last words before after old new (refusals.Program breach) = SomeFile words (λ command. Means contents command (Err (Program breach)))
 IsCause contents first last words before after old new (refusals.Plan breach) = SomeFile words (λ command. Means contents command (Err (Plan breach)))
-IsCause contents first last words before after old new refusals.Write = Rose before after × SomeJob contents words (λ command job. FailedBehind (engine_of command) job old new)
-IsCause contents first last words before after old new (refusals.WriteAt d) = Rose before after × SomeJob contents words (λ command job. FailedAt (engine_of command) job old new d.0)
+IsCause contents first last words before after old new (refusals.Name unknown) = SomeFile words (λ command. Means contents command (Err (Name unknown)))
+IsCause contents first last words before after old new refusals.Write = Rose before after × SomeJob contents words (λ command job. FailedBehind job old new)
+IsCause contents first last words before after old new (refusals.WriteAt d) = Rose before after × SomeJob contents words (λ command job. FailedAt job old new d.0)
 IsCause contents first last words before after old new refusals.OutOfMemory = Unit {0}
 
 -- nothing is written where words, a reading or a rule are refused
@@ -229,12 +269,8 @@ IsUnwritten same (refusals.Read file) = same
 IsUnwritten same (refusals.Config fault) = same
 IsUnwritten same (refusals.Program breach) = same
 IsUnwritten same (refusals.Plan breach) = same
+IsUnwritten same (refusals.Name unknown) = same
 IsUnwritten same refusal = Unit {0}
-
--- and nothing is read where words are
-abbrev pub IsUnread : Type 0 → Refusal → Type 0
-IsUnread same (refusals.Usage k) = same
-IsUnread same refusal = Unit {0}
 
 -- and no part of a report is written where no memory was found
 abbrev pub IsUnreported : Type 0 → Refusal → Type 0

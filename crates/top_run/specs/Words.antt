@@ -3,6 +3,9 @@ use Rattle.std.specs.Prelude.{◌≡◌, ◌≢◌, ℕ, ◌+◌, ◌<◌, ◌�
 use Rattle.std.specs.Fmt.{decimal}
 use Rattle.std.specs.Global.{Global}
 use Rattle.std.proofs.Common.{suc}
+use Rattle.sim_base.specs.declared.time.Time.{Time}
+use Rattle.plan_show.specs.declared.question.Question.{Question}
+use Rattle.plan_show.specs.declared.question.Question.TheVariants as questions
 use Rattle.top_run.specs.declared.command.Ring.{Ring}
 use Rattle.top_run.specs.declared.command.Options.{Options}
 use Rattle.top_run.specs.declared.command.Detail.{Detail}
@@ -99,19 +102,49 @@ AreFile file words = (words ≡ file ∷ []) × IsFile file
 abbrev pub AreFileAndOptions : List ℕ → Options → List (List ℕ) → Type 0
 AreFileAndOptions file options words = (rest : List (List ℕ)) × (words ≡ file ∷ rest) × IsFile file × AreSettings no_options options rest
 
+-- the word that says what is asked
+abbrev pub question_word : Question → List ℕ
+question_word questions.Now = codes "now"
+question_word questions.Parts = codes "parts"
+question_word (questions.Part name) = codes "part"
+question_word (questions.Field name field) = codes "field"
+question_word questions.Buffers = codes "buffers"
+question_word questions.Progress = codes "progress"
+question_word questions.Stuck = codes "stuck"
+
+-- the names that stand behind it
+abbrev pub question_names : Question → List (List ℕ)
+question_names questions.Now = []
+question_names questions.Parts = []
+question_names (questions.Part name) = name ∷ []
+question_names (questions.Field name field) = name ∷ field ∷ []
+question_names questions.Buffers = []
+question_names questions.Progress = []
+question_names questions.Stuck = []
+
+abbrev pub question_words : Question → List (List ℕ)
+question_words question = question_word question ∷ question_names question
+
+-- a file, `--at T`, and a question
+abbrev pub AreShow : List ℕ → Time → Question → List (List ℕ) → Type 0
+AreShow file at question words = (words ≡ file ∷ codes "--at" ∷ decimal at.0 ∷ question_words question) × IsFile file × (at.0 ≤ latest)
+
 -- the first word of a command
 abbrev pub command_word : Command → List ℕ
 command_word (commands.Ring ring) = codes "ring"
 command_word (commands.Check file) = codes "check"
 command_word (commands.Run file options) = codes "run"
 command_word (commands.Slow file options) = codes "slow"
+command_word (commands.Show file at question) = codes "show"
 
--- and the words behind it: `ring N UNTIL`, `check FILE`, `run FILE` and options, `slow FILE` and options
+-- and the words behind it: `ring N UNTIL`, `check FILE`, `run FILE` and options, `slow FILE` and options, `show FILE --at T` and a
+-- question
 abbrev pub AreBehind : Command → List (List ℕ) → Type 0
 AreBehind (commands.Ring ring) = AreRing ring
 AreBehind (commands.Check file) = AreFile file
 AreBehind (commands.Run file options) = AreFileAndOptions file options
 AreBehind (commands.Slow file options) = AreFileAndOptions file options
+AreBehind (commands.Show file at question) = AreShow file at question
 
 -- the words are those of a command
 abbrev pub Accepts : List (List ℕ) → Command → Type 0
@@ -156,6 +189,12 @@ IsOneFile words = (file : List ℕ) × AreFile file words
 
 abbrev pub IsFileAndOptions : List (List ℕ) → Type 0
 IsFileAndOptions words = (file : List ℕ) × (options : Options) × AreFileAndOptions file options words
+
+abbrev pub IsShow : List (List ℕ) → Type 0
+IsShow words = (file : List ℕ) × (at : Time) × (question : Question) × AreShow file at question words
+
+abbrev pub IsQuestion : List (List ℕ) → Type 0
+IsQuestion words = (question : Question) × (words ≡ question_words question)
 
 -- options behind others
 abbrev pub HasOptions : Options → List (List ℕ) → Type 0

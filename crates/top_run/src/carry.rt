@@ -1,35 +1,31 @@
-ghost use Rattle.std.specs.Prelude.{◌≡◌, ◌+◌, ◌<◌, ◌≤◌, ◌⊎◌, length, None, IfOk, IfErr, OnOk, OnErr};
+ghost use Rattle.std.specs.Prelude.{◌≡◌, ◌+◌, ◌<◌, ◌≤◌, ◌⊎◌, [], length, IfOk, IfErr, OnOk, OnErr};
+ghost use Rattle.world_query.specs.Legend.{legend_of, IsQueryOf};
 ghost use Rattle.sim_io.specs.Sink.{Rose, Got, GotPrefix};
-ghost use Rattle.top_run.specs.Top.{check_line, engine_of, job_status, job_lines, all_lines, job_report, job_written, job_steps, FailedAt, FailedBehind, IsFaultOfJob};
+ghost use Rattle.top_run.specs.declared.run.Engine.TheVariants.{Sleeping};
+ghost use Rattle.top_run.specs.Job.{IsWorkOf};
+ghost use Rattle.top_run.specs.Top.{check_line, shown_line, plan_steps, job_status, all_lines, job_written, job_steps, Broke, FailedAt, FailedBehind, IsFaultOfJob};
 
-use crate::command::Command;
-use crate::job::Job;
+use crate::job::{Job, Work};
+use crate::machine::Machine;
 use crate::refusal::Refusal;
-use crate::run::{Engine, show_run};
+use crate::run::show_run;
 use crate::status::Status;
 use itoa::Buffer;
-use sim_base::Steps;
+use part_kind::{LinkKind, Part};
+use plan_show::show_plan;
+use sim_base::{OutOfMemory, Steps};
 use sim_io::Sink;
 use std::alloc::Global;
 use std::sync::ledger::Ledger;
+use tick_law::Plan;
 use trace_out::{Line, add};
-
-/// The engine by which a command runs its plan.
-pub fn engine_of(command: &Command) -> Option<Engine>
-    ensures { result ≡ engine_of command.now }
-{
-    match command {
-        Command::Ring(_) | Command::Run(_, _) => Some(Engine::Sleeping),
-        Command::Check(_) => None,
-        Command::Slow(_, _) => Some(Engine::Serial),
-    }
-}
+use world_query::Query;
 
 /// The line of a file that describes a machine. It takes no memory.
-fn check_line(job: &Job) -> Line
-    ensures { result.items ≡ check_line job.now }
+fn check_line(machine: &Machine) -> Line
+    ensures { result.items ≡ check_line machine.now }
 {
-    let plan = &job.plan;
+    let plan = &machine.plan;
     let mut digits = Buffer::new();
     let mut line = Line::new();
     add(&mut line, b"ok parts ");
@@ -39,7 +35,7 @@ fn check_line(job: &Job) -> Line
     add(&mut line, b" ports ");
     add(&mut line, digits.format(plan.ports.len()).as_bytes());
     add(&mut line, b" programs ");
-    add(&mut line, digits.format(job.programs).as_bytes());
+    add(&mut line, digits.format(machine.programs).as_bytes());
     add(&mut line, b" until ");
     add(&mut line, digits.format(plan.until.0).as_bytes());
     add(&mut line, b"\n");
@@ -57,41 +53,90 @@ fn write_report<K: Sink>(out: &mut K, report: &[u8]) -> Result<(), Refusal>
 }
 
 /// Writes the line of a file that describes a machine.
-fn check<K: Sink>(job: &Job, out: &mut K) -> Result<(), Refusal>
-    ensures ok { OnOk result (Got (K.told out.old) (K.told out.new) (check_line job.now)) }
+fn check<K: Sink>(machine: &Machine, out: &mut K) -> Result<(), Refusal>
+    ensures ok { OnOk result (Got (K.told out.old) (K.told out.new) (check_line machine.now)) }
     ensures fault { OnErr result (Rose (K.faults out.old) (K.faults out.new)) }
     ensures behind { OnErr result
-        (FailedBehind None job.now (K.told out.old) (K.told out.new)) }
+        (Broke [] (check_line machine.now) (K.told out.old) (K.told out.new)) }
     ensures write { IfErr result (λ refusal. refusal ≡ Refusal.Write) }
 {
-    let line = check_line(job);
+    let line = check_line(machine);
     write_report(out, line.as_slice())
 }
 
-/// Does a job: runs it by its engine and writes its report, or else writes the line of a check.
+/// The answer to a query about a plan's machine at the boundary behind its greatest time, and a line feed.
+fn shown_line<L: Ledger>(
+    alloc: Global,
+    plan: Plan<Part, LinkKind>,
+    query: &Query,
+    steps: &mut Steps<L>,
+) -> Result<Vec<u8>, OutOfMemory>
+    requires { IsQueryOf (legend_of plan) query.now }
+
+    ensures line { IfOk result (λ line. line.items ≡ shown_line query.now plan) }
+    ensures steps { OnOk result (steps.new ≡ steps.old
+        + plan_steps Sleeping plan (plan.until + 1)) }
+{
+    let mut line = show_plan(alloc, plan, query, steps)?.into_vec();
+    line.push(b'\n')?;
+    Ok(line)
+}
+
+/// Runs a plan, and writes the answer to a query about its machine then.
+fn show<K: Sink, L: Ledger>(
+    alloc: Global,
+    plan: Plan<Part, LinkKind>,
+    query: &Query,
+    out: &mut K,
+    steps: &mut Steps<L>,
+) -> Result<(), Refusal>
+    requires { IsQueryOf (legend_of plan) query.now }
+
+    ensures ok { OnOk result (Got (K.told out.old) (K.told out.new) (shown_line query.now plan)) }
+    ensures steps { OnOk result (steps.new ≡ steps.old
+        + plan_steps Sleeping plan (plan.until + 1)) }
+    ensures fault { IfErr result (IsFaultOfJob
+        (Rose (K.faults out.old) (K.faults out.new)
+        × Broke [] (shown_line query.now plan) (K.told out.old) (K.told out.new))
+        (λ _. ⊥) (out.new ≡ out.old)) }
+{
+    let line = shown_line(alloc, plan, query, steps)?;
+    write_report(out, &line)
+}
+
+/// Does a job: runs its machine and writes the report or the answer to a query, or else writes the line of a check.
 pub fn carry_out<K: Sink, L: Ledger>(
     alloc: Global,
-    engine: Option<Engine>,
     job: Job,
     out: &mut K,
     steps: &mut Steps<L>,
 ) -> Result<Status, Refusal>
-    ensures status { IfOk result (λ status. status.0 ≡ job_status engine job) }
-    ensures written { OnOk result (Got (K.told out.old) (K.told out.new) (job_written engine job)) }
-    ensures steps { OnOk result (steps.new ≡ steps.old + job_steps engine job) }
+    requires within { IsWorkOf job.machine job.work }
+
+    ensures status { IfOk result (λ status. status.0 ≡ job_status job) }
+    ensures written { OnOk result (Got (K.told out.old) (K.told out.new) (job_written job)) }
+    ensures steps { OnOk result (steps.new ≡ steps.old + job_steps job) }
 
     ensures fault { IfErr result (IsFaultOfJob
         (Rose (K.faults out.old) (K.faults out.new)
-        × FailedBehind engine job (K.told out.old) (K.told out.new))
+        × FailedBehind job (K.told out.old) (K.told out.new))
         (λ d. Rose (K.faults out.old) (K.faults out.new)
-        × FailedAt engine job (K.told out.old) (K.told out.new) d)
-        ((out.new ≡ out.old) ⊎ Got (K.told out.old) (K.told out.new) (all_lines engine job))) }
+        × FailedAt job (K.told out.old) (K.told out.new) d)
+        ((out.new ≡ out.old) ⊎ Got (K.told out.old) (K.told out.new) (all_lines job))) }
 {
-    let Some(engine) = engine else {
-        check(&job, out)?;
-        return Ok(Status(0));
-    };
-    let shown = show_run(alloc, engine, job.plan, job.options, out, steps)?;
-    write_report(out, shown.report.items())?;
-    Ok(Status::of(shown.verdict))
+    match job.work {
+        Work::Run(engine, options) => {
+            let shown = show_run(alloc, engine, job.machine.plan, options, out, steps)?;
+            write_report(out, shown.report.items())?;
+            Ok(Status::of(shown.verdict))
+        }
+        Work::Check => {
+            check(&job.machine, out)?;
+            Ok(Status(0))
+        }
+        Work::Show(query) => {
+            show(alloc, job.machine.plan, &query, out, steps)?;
+            Ok(Status(0))
+        }
+    }
 }

@@ -1,3 +1,4 @@
+use plan_show::Question;
 use sim_base::Time;
 use std::alloc::{AllocError, Global};
 use std::marker::Model;
@@ -126,4 +127,6 @@ pub enum Command {
     Run(FileName, Options),
     /// The same by the loop that ticks everything.
     Slow(FileName, Options),
+    /// The answer to a question about a file's machine at the boundary behind a time, which is at most 500,000,000,000 ps.
+    Show(FileName, Time, Question),
 }

@@ -4,18 +4,18 @@
 mod carry;
 mod command;
 mod job;
+mod machine;
 mod program_breach;
 mod programs;
 mod refusal;
 mod run;
 mod status;
-#[cfg(test)]
-mod tests;
 mod top;
 mod words;
 
 pub use command::{Command, Detail, FileName, Options, Ring};
-pub use job::Job;
+pub use job::{Job, Work};
+pub use machine::Machine;
 pub use program_breach::{ProgramBreach, ProgramRule};
 pub use run::Engine;
 pub use status::Status;

@@ -1,10 +1,11 @@
 ghost use Rattle.std.specs.Prelude.{◌≡◌, ◌<◌, length, IfOk, string_bytes};
-ghost use Rattle.top_run.specs.Refusals.{usage_line, config_line, byte_words, place_words, program_line, plan_line, read_line, write_at_line};
+ghost use Rattle.top_run.specs.Refusals.{usage_line, name_place, config_line, byte_words, place_words, program_line, plan_line, read_line, write_at_line};
 
 use crate::command::FileName;
 use crate::program_breach::ProgramBreach;
 use itoa::Buffer;
 use plan_rules::Breach;
+use plan_show::Unknown;
 use sim_base::{OutOfMemory, Time};
 use sim_config::ConfigFault;
 use std::alloc::{AllocError, AllocFailed, Global};
@@ -23,6 +24,8 @@ pub enum Refusal {
     Program(ProgramBreach),
     /// The file breaks a rule of plans.
     Plan(Breach),
+    /// A name of the question is that of no part, or of no field of the part, of the file's machine.
+    Name(Unknown),
     /// A write of the report failed.
     Write,
     /// A write of a line at the end of a time failed; the boundary behind that time.
@@ -69,6 +72,16 @@ pub fn usage_line(alloc: Global, word: usize) -> Result<String, AllocError>
     ensures some { IfOk result (λ line. 0 < length (string_bytes line)) }
 {
     format!(in alloc; "akita: usage: word {word}\n")
+}
+
+/// Which word of `show FILE --at T part NAME` and `show FILE --at T field NAME FIELD` a name is, counted from 1.
+pub fn name_place(unknown: Unknown) -> usize
+    ensures { result ≡ name_place unknown }
+{
+    match unknown {
+        Unknown::Part => 6,
+        Unknown::Field => 7,
+    }
 }
 
 /// The line of a file whose reading failed.

@@ -5,13 +5,13 @@ ghost use Rattle.top_run.specs.declared.command.Command.{Command};
 ghost use Rattle.top_run.specs.declared.job.Job.{Job};
 ghost use Rattle.top_run.specs.Job.{Rule, Means, IsTold};
 ghost use Rattle.top_run.specs.Refusals.{usage_line, read_line, config_line, program_line, plan_line, write_line, write_at_line, memory_line, Told};
-ghost use Rattle.top_run.specs.Top.{engine_of, job_status, all_lines, job_written, HasRun, FailedAt, FailedBehind, ReadFailed, SomeReadFailed, rule_line, rule_status};
-ghost use Rattle.top_run.specs.Top.{IsVerdict, IsStatus, IsBroken, IsRefusal, SomeJob, SomeFile, IsCause, IsUnwritten, IsUnread, IsUnreported};
+ghost use Rattle.top_run.specs.Top.{job_status, all_lines, job_written, HasRun, FailedAt, FailedBehind, ReadFailed, SomeReadFailed, rule_line, rule_status};
+ghost use Rattle.top_run.specs.Top.{IsVerdict, IsStatus, IsBroken, IsRefusal, IsUnknownAt, IsRefusedWord, SomeJob, SomeFile, IsCause, IsUnwritten, IsUnreported};
 
-use crate::carry::{carry_out, engine_of};
+use crate::carry::carry_out;
 use crate::job::read_job;
 use crate::refusal::{
-    Refusal, config_line, plan_line, program_line, read_line, usage_line, write_at_line,
+    Refusal, config_line, name_place, plan_line, program_line, read_line, usage_line, write_at_line,
 };
 use crate::status::Status;
 use crate::words::read_words;
@@ -75,24 +75,25 @@ fn run_words<F: Files, K: Sink, L: Ledger>(
         (F.contents files.old) (F.faults files.old) (F.faults files.new) (spelled words.now)
         (K.faults out.old) (K.faults out.new) (K.told out.old) (K.told out.new)) }
     ensures unwritten { IfErr result (IsUnwritten (out.new ≡ out.old)) }
-    ensures unread { IfErr result (IsUnread (files.new ≡ files.old)) }
+    ensures unread { (IsAccepted (spelled words.now) → ⊥) → files.new ≡ files.old }
     ensures unreported { IfErr result (IsUnreported ((out.new ≡ out.old)
         ⊎ SomeJob (F.contents files.old) (spelled words.now) (λ command job.
-        Got (K.told out.old) (K.told out.new) (all_lines (engine_of command) job)))) }
+        Got (K.told out.old) (K.told out.new) (all_lines job)))) }
 
     ensures contents { (name : List ℕ) → F.contents files.new name ≡ F.contents files.old name }
 {
     let command = read_words(alloc, words)?;
     let job = read_job(alloc, &command, files)?;
-    carry_out(alloc, engine_of(&command), job, out, steps)
+    carry_out(alloc, job, out, steps)
 }
 
 /// Runs the program on its words, and answers the status that it ends with. It waits for nobody.
 ///
 /// The words are looked at first, then the file that they name is read and its rules of configurations are tried, then the
-/// programs that it names are read one after the other, then its rules of plans are tried. The lines of the run and then its report
-/// go to `out`. Every refusal is one line on `err`: `akita: usage: word K` names the first word that no accepted list of words has
-/// there, `akita: read: FILE` a file whose reading failed, `akita: config: RULE TABLE KEY` and `akita: plan: RULE TABLE` the first
+/// programs that it names are read one after the other, then its rules of plans are tried, then the names of a question are looked
+/// up. The lines of the run and then its report, or the answer to the question, go to `out`. Every refusal is one line on `err`:
+/// `akita: usage: word K` names the first word that no accepted list of words has there, or the name of a part or a field that the
+/// machine does not have, `akita: read: FILE` a file whose reading failed, `akita: config: RULE TABLE KEY` and `akita: plan: RULE TABLE` the first
 /// rule that a file breaks, `akita: program: RULE P at BYTE` the first rule that program P breaks and the byte place in its file,
 /// `akita: write at D` a failed write of a line with the boundary D behind its time, `akita: write` a failed write of the report,
 /// `akita: memory` want of memory. A failure of `err` changes no status.
@@ -115,15 +116,17 @@ pub fn plain<F: Files, K: Sink, E: Sink, L: Ledger>(
         → IsTold (F.contents files.old) command (Ok job)
         → (Rose (K.faults out.old) (K.faults out.new) → ⊥)
         → (SomeReadFailed (F.contents files.old) (F.faults files.old) (F.faults files.new) command → ⊥)
-        → IfSome result (λ s. (s.0 ≡ 8) ⊎ ((s.0 ≡ job_status (engine_of command) job)
-        × Got (K.told out.old) (K.told out.new) (job_written (engine_of command) job))) }
+        → IfSome result (λ s. (s.0 ≡ 8) ⊎ ((s.0 ≡ job_status job)
+        × Got (K.told out.old) (K.told out.new) (job_written job))) }
 
-    ensures usage { IfSome result (λ s. s.0 ≡ 2 → (k : ℕ) × RefusedAt (spelled words.now) k
+    ensures usage { IfSome result (λ s. s.0 ≡ 2
+        → (k : ℕ) × IsRefusedWord (F.contents files.old) (spelled words.now) k
         × Told (usage_line k)
         (E.told err.old) (E.told err.new) (E.faults err.old) (E.faults err.new)) }
     ensures refused { (IsAccepted (spelled words.now) → ⊥)
         → IfSome result (λ s. (s.0 ≡ 2) ⊎ (s.0 ≡ 8)) }
-    ensures accepted { IsAccepted (spelled words.now) → IfSome result (λ s. s.0 ≢ 2) }
+    ensures accepted { IsAccepted (spelled words.now) → IfSome result (λ s. s.0 ≡ 2
+        → (k : ℕ) × IsUnknownAt (F.contents files.old) (spelled words.now) k) }
 
     ensures read { IfSome result (λ s. s.0 ≡ 5
         → (name : List ℕ) × SomeFile (spelled words.now) (λ command.
@@ -144,19 +147,19 @@ pub fn plain<F: Files, K: Sink, E: Sink, L: Ledger>(
 
     ensures write { IfSome result (λ s. s.0 ≡ 6 → Rose (K.faults out.old) (K.faults out.new)
         × ((SomeJob (F.contents files.old) (spelled words.now) (λ command job.
-        FailedBehind (engine_of command) job (K.told out.old) (K.told out.new))
+        FailedBehind job (K.told out.old) (K.told out.new))
         × Told write_line (E.told err.old) (E.told err.new) (E.faults err.old) (E.faults err.new))
         ⊎ ((d : ℕ) × SomeJob (F.contents files.old) (spelled words.now) (λ command job.
-        FailedAt (engine_of command) job (K.told out.old) (K.told out.new) d)
+        FailedAt job (K.told out.old) (K.told out.new) d)
         × Told (write_at_line d)
         (E.told err.old) (E.told err.new) (E.faults err.old) (E.faults err.new)))) }
     ensures memory { IfSome result (λ s. s.0 ≡ 8 → Told memory_line
         (E.told err.old) (E.told err.new) (E.faults err.old) (E.faults err.new)) }
     ensures unreported { IfSome result (λ s. s.0 ≡ 8 → (out.new ≡ out.old)
         ⊎ SomeJob (F.contents files.old) (spelled words.now) (λ command job.
-        Got (K.told out.old) (K.told out.new) (all_lines (engine_of command) job))) }
+        Got (K.told out.old) (K.told out.new) (all_lines job))) }
 
-    ensures unread { IfSome result (λ s. s.0 ≡ 2 → files.new ≡ files.old) }
+    ensures unread { (IsAccepted (spelled words.now) → ⊥) → files.new ≡ files.old }
     ensures contents { (name : List ℕ) → F.contents files.new name ≡ F.contents files.old name }
 {
     let status = match run_words(alloc, words, files, out, steps) {
@@ -166,6 +169,9 @@ pub fn plain<F: Files, K: Sink, E: Sink, L: Ledger>(
         Err(Refusal::Config(fault)) => tell_made(err, config_line(alloc, fault), Status(3)),
         Err(Refusal::Program(breach)) => tell_made(err, program_line(alloc, breach), Status(4)),
         Err(Refusal::Plan(breach)) => tell_made(err, plan_line(alloc, breach), Status(3)),
+        Err(Refusal::Name(unknown)) => {
+            tell_made(err, usage_line(alloc, name_place(unknown)), Status(2))
+        }
         Err(Refusal::WriteAt(upto)) => {
             tell_write_at(err, upto);
             Status(6)

@@ -1,12 +1,15 @@
 ghost use Rattle.std.specs.Prelude.{◌≡◌, ◌≢◌, ℕ, ◌+◌, ◌≤◌, ◌<◌, ◌^◌, List, [], length, drop, codes, Some, None, false, slice_get, IsTrue, ◌↔◌, IfOk, IfErr, IfSome, OnOk};
 ghost use Rattle.std.specs.Fmt.{decimal};
+ghost use Rattle.plan_show.specs.declared.question.Question.{Question};
 ghost use Rattle.top_run.specs.declared.command.Detail.{Detail};
-ghost use Rattle.top_run.specs.Words.{spelled, IsFile, AreRing, AreFile, AreFileAndOptions, AreSettings, Accepts, detail_word, has_detail};
-ghost use Rattle.top_run.specs.Words.{IsRing, IsOneFile, IsFileAndOptions, HasOptions, RefusedAt, IsRefusedFrom, IsNumberAt, IsUsage};
+ghost use Rattle.top_run.specs.Words.{spelled, IsFile, AreRing, AreFile, AreFileAndOptions, AreSettings, AreShow, Accepts, detail_word, has_detail};
+ghost use Rattle.top_run.specs.Words.{question_word, question_names, question_words, IsRing, IsOneFile, IsFileAndOptions, HasOptions, IsShow, IsQuestion};
+ghost use Rattle.top_run.specs.Words.{RefusedAt, IsRefusedFrom, IsNumberAt, IsUsage};
 
 use crate::command::{Command, Detail, FileName, Options, Ring};
 use crate::refusal::Refusal;
-use sim_base::{OutOfMemory, Time};
+use plan_show::Question;
+use sim_base::{Body, OutOfMemory, Time};
 use std::alloc::Global;
 
 /// The greatest time that a word may ask for, in picoseconds.
@@ -258,6 +261,136 @@ fn read_run(alloc: Global, words: &[String]) -> Result<FileRun, Refusal>
     Ok(FileRun { file, options })
 }
 
+/// The word of this place is this one.
+fn need_word(words: &[String], place: usize, text: &[u8]) -> Result<(), Refusal>
+    requires near { place ≤ length words.now }
+
+    ensures some { OnOk result (slice_get (spelled words.now) place ≡ Some text.now) }
+    ensures here { OnOk result (place < length words.now) }
+    ensures none { IfErr result (IsUsage (λ k. (k ≡ place + 1)
+        × (slice_get (spelled words.now) place ≢ Some text.now))) }
+{
+    if is_word(words, place, text) {
+        return Ok(());
+    }
+    Err(Refusal::Usage(place + 1))
+}
+
+/// The name of this place, which is any word.
+fn need_name(alloc: Global, words: &[String], place: usize) -> Result<Body, Refusal>
+    requires near { place ≤ length words.now }
+
+    ensures some { IfOk result (λ name. slice_get (spelled words.now) place ≡ Some name) }
+    ensures here { OnOk result (place < length words.now) }
+    ensures none { IfErr result (IsUsage (λ k. (k ≡ place + 1) × (length words.now ≤ place))) }
+{
+    match words.get(place) {
+        Some(word) => Ok(Body::of(Vec::from_slice(alloc, word.as_bytes())?)),
+        None => Err(Refusal::Usage(place + 1)),
+    }
+}
+
+/// The question without names that the word of this place asks.
+fn whole_question(words: &[String], place: usize) -> Option<Question>
+    ensures some { IfSome result (λ q. (question_names q ≡ [])
+        × (slice_get (spelled words.now) place ≡ Some (question_word q))) }
+    ensures none { result ≡ None → (q : Question) → question_names q ≡ []
+        → slice_get (spelled words.now) place ≡ Some (question_word q) → ⊥ }
+{
+    if is_word(words, place, b"now") {
+        return Some(Question::Now);
+    }
+    if is_word(words, place, b"parts") {
+        return Some(Question::Parts);
+    }
+    if is_word(words, place, b"buffers") {
+        return Some(Question::Buffers);
+    }
+    if is_word(words, place, b"progress") {
+        return Some(Question::Progress);
+    }
+    if is_word(words, place, b"stuck") {
+        return Some(Question::Stuck);
+    }
+    None
+}
+
+/// The question about a part, whose name stands behind the word `part`.
+fn part_question(alloc: Global, words: &[String]) -> Result<Question, Refusal>
+    requires word { slice_get (spelled words.now) 4 ≡ Some (codes "part") }
+    requires long { 4 < length words.now }
+
+    ensures accepted { IfOk result (λ q. drop 4 (spelled words.now) ≡ question_words q) }
+    ensures refused { IfErr result (IsUsage (IsRefusedFrom IsQuestion (spelled words.now) 4)) }
+{
+    let part = need_name(alloc, words, 5)?;
+    need_end(words, 6)?;
+    Ok(Question::Part(part))
+}
+
+/// The question about a field, whose name stands behind that of its part and the word `field`.
+fn field_question(alloc: Global, words: &[String]) -> Result<Question, Refusal>
+    requires word { slice_get (spelled words.now) 4 ≡ Some (codes "field") }
+    requires long { 4 < length words.now }
+
+    ensures accepted { IfOk result (λ q. drop 4 (spelled words.now) ≡ question_words q) }
+    ensures refused { IfErr result (IsUsage (IsRefusedFrom IsQuestion (spelled words.now) 4)) }
+{
+    let part = need_name(alloc, words, 5)?;
+    let field = need_name(alloc, words, 6)?;
+    need_end(words, 7)?;
+    Ok(Question::Field(part, field))
+}
+
+/// The question that the words from the fifth on ask.
+fn read_question(alloc: Global, words: &[String]) -> Result<Question, Refusal>
+    requires near { 4 ≤ length words.now }
+
+    ensures accepted { IfOk result (λ q. drop 4 (spelled words.now) ≡ question_words q) }
+    ensures refused { IfErr result (IsUsage (IsRefusedFrom IsQuestion (spelled words.now) 4)) }
+{
+    if is_word(words, 4, b"part") {
+        return part_question(alloc, words);
+    }
+    if is_word(words, 4, b"field") {
+        return field_question(alloc, words);
+    }
+    match whole_question(words, 4) {
+        Some(question) => {
+            need_end(words, 5)?;
+            Ok(question)
+        }
+        None => Err(Refusal::Usage(5)),
+    }
+}
+
+/// A file, the time up to which its machine is run, and what is asked about it then.
+#[derive(Drop)]
+struct FileShow {
+    file: FileName,
+    at: Time,
+    question: Question,
+}
+
+/// The file, the time and the question that the words behind the first name.
+fn read_show(alloc: Global, words: &[String]) -> Result<FileShow, Refusal>
+    requires some { 0 < length words.now }
+
+    ensures accepted { IfOk result
+        (λ show. AreShow show.file show.at show.question (drop 1 (spelled words.now))) }
+    ensures refused { IfErr result (IsUsage (IsRefusedFrom IsShow (spelled words.now) 1)) }
+{
+    let file = need_file(alloc, words, 1)?;
+    need_word(words, 2, b"--at")?;
+    let at = need_number(alloc, words, 3, 0, LATEST)?;
+    let question = read_question(alloc, words)?;
+    Ok(FileShow {
+        file,
+        at: Time(at),
+        question,
+    })
+}
+
 /// The command that the words ask for. Words that are refused are named by the least number K such that no accepted list has the
 /// same first K words.
 pub fn read_words(alloc: Global, words: &[String]) -> Result<Command, Refusal>
@@ -277,6 +410,10 @@ pub fn read_words(alloc: Global, words: &[String]) -> Result<Command, Refusal>
     if is_word(words, 0, b"slow") {
         let FileRun { file, options } = read_run(alloc, words)?;
         return Ok(Command::Slow(file, options));
+    }
+    if is_word(words, 0, b"show") {
+        let FileShow { file, at, question } = read_show(alloc, words)?;
+        return Ok(Command::Show(file, at, question));
     }
     Err(Refusal::Usage(1))
 }

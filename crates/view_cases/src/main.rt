@@ -43,8 +43,9 @@ fn config_of(alloc: Global, line: &str) -> Result<Vec<u8>, AllocError> {
     Ok(config)
 }
 
-fn name_of(alloc: Global, word: Option<&str>) -> Result<Vec<u8>, AllocError> {
-    Vec::from_slice(alloc, word.unwrap_or("").as_bytes())
+fn name_of(alloc: Global, word: Option<&str>) -> Result<Body, AllocError> {
+    let text = Vec::from_slice(alloc, word.unwrap_or("").as_bytes())?;
+    Ok(Body::of(text))
 }
 
 /// The question of these words, if they are one.

@@ -1,6 +1,7 @@
-use Rattle.std.proofs.Common.{subst}
+use Rattle.std.proofs.Common.{◌≡◌, subst, inr}
 use Rattle.top_run.specs.Words.{spelled}
-use Rattle.top_run.specs.Job.{Config, Program, Plan}
+use Rattle.top_run.specs.Job.{Config, Program, Plan, Name}
+use Rattle.top_run.specs.Refusals.{name_place}
 use Rattle.top_run.specs.Top.{IsCause}
 use Rattle.top_run.proofs.Spelling.{completed, not_run, not_broken, not_failed, refused_none, not_job, rule_same}
 use Rattle.top_run.proofs.Causes.{is_three, is_four, told_as}
@@ -70,6 +71,22 @@ pub returns-in-Err-Plan-clause-broken : goal.returns-in-Err-Plan-clause-broken
 returns-in-Err-Plan-clause-broken g c = λ command rule accepts told calm.
     let same = rule_same _ (spelled c.args.words.now) command rule (Plan c.in-Err-Plan.breach) accepts told (subst (λ r. IsCause (g.F.Files.contents c.args.files.now) (g.F.Files.faults c.args.files.now) (g.F.Files.faults c.run_words.new.files) (spelled c.args.words.now) (g.K.Sink.faults c.args.out.now) (g.K.Sink.faults c.run_words.new.out) (g.K.Sink.told c.args.out.now) (g.K.Sink.told c.run_words.new.out) r) c.in-Err-Plan.field-0-is c.in-Err-Plan.ensures.fault) in
     told_as same c.tell_made-status-in-Err-Plan.ensures.either
+
+pub returns-in-Err-Name-clause-complete : goal.returns-in-Err-Name-clause-complete
+returns-in-Err-Name-clause-complete g c = λ command job accepts told calm read. not_broken _ (spelled c.args.words.now) command job (Name c.in-Err-Name.unknown) accepts told (subst (λ r. IsCause (g.F.Files.contents c.args.files.now) (g.F.Files.faults c.args.files.now) (g.F.Files.faults c.run_words.new.files) (spelled c.args.words.now) (g.K.Sink.faults c.args.out.now) (g.K.Sink.faults c.run_words.new.out) (g.K.Sink.told c.args.out.now) (g.K.Sink.told c.run_words.new.out) r) c.in-Err-Name.field-0-is c.in-Err-Name.ensures.fault)
+
+pub returns-in-Err-Name-clause-usage : goal.returns-in-Err-Name-clause-usage
+returns-in-Err-Name-clause-usage g c = λ two.
+    let place : c.name_place.result ≡ name_place c.in-Err-Name.unknown = c.name_place.ensures in
+    (c.name_place.result, inr (c.in-Err-Name.unknown, place, (subst (λ r. IsCause (g.F.Files.contents c.args.files.now) (g.F.Files.faults c.args.files.now) (g.F.Files.faults c.run_words.new.files) (spelled c.args.words.now) (g.K.Sink.faults c.args.out.now) (g.K.Sink.faults c.run_words.new.out) (g.K.Sink.told c.args.out.now) (g.K.Sink.told c.run_words.new.out) r) c.in-Err-Name.field-0-is c.in-Err-Name.ensures.fault)), c.tell_made-status-in-Err-Name.ensures.line two _ c.usage_line-in-Err-Name.ensures.text)
+
+pub returns-in-Err-Name-clause-accepted : goal.returns-in-Err-Name-clause-accepted
+returns-in-Err-Name-clause-accepted g c = λ accepted two. (c.name_place.result, (c.in-Err-Name.unknown, c.name_place.ensures, (subst (λ r. IsCause (g.F.Files.contents c.args.files.now) (g.F.Files.faults c.args.files.now) (g.F.Files.faults c.run_words.new.files) (spelled c.args.words.now) (g.K.Sink.faults c.args.out.now) (g.K.Sink.faults c.run_words.new.out) (g.K.Sink.told c.args.out.now) (g.K.Sink.told c.run_words.new.out) r) c.in-Err-Name.field-0-is c.in-Err-Name.ensures.fault)))
+
+pub returns-in-Err-Name-clause-broken : goal.returns-in-Err-Name-clause-broken
+returns-in-Err-Name-clause-broken g c = λ command rule accepts told calm.
+    let same = rule_same _ (spelled c.args.words.now) command rule (Name c.in-Err-Name.unknown) accepts told (subst (λ r. IsCause (g.F.Files.contents c.args.files.now) (g.F.Files.faults c.args.files.now) (g.F.Files.faults c.run_words.new.files) (spelled c.args.words.now) (g.K.Sink.faults c.args.out.now) (g.K.Sink.faults c.run_words.new.out) (g.K.Sink.told c.args.out.now) (g.K.Sink.told c.run_words.new.out) r) c.in-Err-Name.field-0-is c.in-Err-Name.ensures.fault) in
+    told_as same c.tell_made-status-in-Err-Name.ensures.either
 
 pub returns-in-Err-WriteAt-clause-broken : goal.returns-in-Err-WriteAt-clause-broken
 returns-in-Err-WriteAt-clause-broken g c = λ command rule accepts told calm. not_job _ (spelled c.args.words.now) _ command rule accepts told (subst (λ r. IsCause (g.F.Files.contents c.args.files.now) (g.F.Files.faults c.args.files.now) (g.F.Files.faults c.run_words.new.files) (spelled c.args.words.now) (g.K.Sink.faults c.args.out.now) (g.K.Sink.faults c.run_words.new.out) (g.K.Sink.told c.args.out.now) (g.K.Sink.told c.run_words.new.out) r) c.in-Err-WriteAt.field-0-is c.in-Err-WriteAt.ensures.fault).1

@@ -1,8 +1,7 @@
-use Rattle.std.proofs.Common.{rules, ◌≡◌, subst, ◌⊎◌}
-use Rattle.std.specs.Prelude.{IfErr}
+use Rattle.std.proofs.Common.{rules, ◌≡◌, ◌⊎◌}
 use Rattle.top_run.specs.Words.{spelled}
-use Rattle.top_run.specs.Top.{IsJob, IsFaultOfJob, FailedAt, FailedBehind, all_lines, engine_of}
-use Rattle.sim_io.specs.Sink.{Rose, Got}
+use Rattle.top_run.specs.Top.{IsJob, all_lines}
+use Rattle.sim_io.specs.Sink.{Got}
 use Rattle.top_run.proofs.WordRefusals.{err_map}
 use Rattle.top_run.proofs.Spelling.{accepted_within}
 use Rattle.top_run.proofs.Causes.{has_run, cause_of_job, unreported_result}
@@ -25,7 +24,7 @@ returns-clause-fault g c =
     let contents = g.F.Files.contents c.args.files.now in
     let words = spelled c.args.words.now in
     let is : IsJob contents words command job = record { accepts = c.in_ok-command.ensures.accepted; means = c.in_ok-job.ensures.job } in
-    err_map _ _ c.carry_out.result (λ r fault. cause_of_job contents (g.F.Files.faults c.args.files.now) (g.F.Files.faults c.read_job.new.files) words (g.K.Sink.faults c.args.out.now) (g.K.Sink.faults c.carry_out.new.out) (g.K.Sink.told c.args.out.now) (g.K.Sink.told c.carry_out.new.out) command job _ r is fault) (subst (λ e. IfErr c.carry_out.result (IsFaultOfJob (Rose (g.K.Sink.faults c.args.out.now) (g.K.Sink.faults c.carry_out.new.out) × FailedBehind e job (g.K.Sink.told c.args.out.now) (g.K.Sink.told c.carry_out.new.out)) (λ d. Rose (g.K.Sink.faults c.args.out.now) (g.K.Sink.faults c.carry_out.new.out) × FailedAt e job (g.K.Sink.told c.args.out.now) (g.K.Sink.told c.carry_out.new.out) d) ((c.carry_out.new.out ≡ c.args.out.now) ⊎ Got (g.K.Sink.told c.args.out.now) (g.K.Sink.told c.carry_out.new.out) (all_lines e job)))) c.engine_of.ensures c.carry_out.ensures.fault)
+    err_map _ _ c.carry_out.result (λ r fault. cause_of_job contents (g.F.Files.faults c.args.files.now) (g.F.Files.faults c.read_job.new.files) words (g.K.Sink.faults c.args.out.now) (g.K.Sink.faults c.carry_out.new.out) (g.K.Sink.told c.args.out.now) (g.K.Sink.told c.carry_out.new.out) command job ((c.carry_out.new.out ≡ c.args.out.now) ⊎ Got (g.K.Sink.told c.args.out.now) (g.K.Sink.told c.carry_out.new.out) (all_lines job)) r is fault) c.carry_out.ensures.fault
 
 pub returns-clause-unreported : goal.returns-clause-unreported
 returns-clause-unreported g c =
@@ -34,4 +33,7 @@ returns-clause-unreported g c =
     let contents = g.F.Files.contents c.args.files.now in
     let words = spelled c.args.words.now in
     let is : IsJob contents words command job = record { accepts = c.in_ok-command.ensures.accepted; means = c.in_ok-job.ensures.job } in
-    unreported_result (c.carry_out.new.out ≡ c.args.out.now) c.carry_out.result (Rose (g.K.Sink.faults c.args.out.now) (g.K.Sink.faults c.carry_out.new.out) × FailedBehind (engine_of command) job (g.K.Sink.told c.args.out.now) (g.K.Sink.told c.carry_out.new.out)) (λ d. Rose (g.K.Sink.faults c.args.out.now) (g.K.Sink.faults c.carry_out.new.out) × FailedAt (engine_of command) job (g.K.Sink.told c.args.out.now) (g.K.Sink.told c.carry_out.new.out) d) contents words command job (g.K.Sink.told c.args.out.now) (g.K.Sink.told c.carry_out.new.out) is (subst (λ e. IfErr c.carry_out.result (IsFaultOfJob (Rose (g.K.Sink.faults c.args.out.now) (g.K.Sink.faults c.carry_out.new.out) × FailedBehind e job (g.K.Sink.told c.args.out.now) (g.K.Sink.told c.carry_out.new.out)) (λ d. Rose (g.K.Sink.faults c.args.out.now) (g.K.Sink.faults c.carry_out.new.out) × FailedAt e job (g.K.Sink.told c.args.out.now) (g.K.Sink.told c.carry_out.new.out) d) ((c.carry_out.new.out ≡ c.args.out.now) ⊎ Got (g.K.Sink.told c.args.out.now) (g.K.Sink.told c.carry_out.new.out) (all_lines e job)))) c.engine_of.ensures c.carry_out.ensures.fault)
+    unreported_result _ c.carry_out.result _ _ contents words command job _ _ is c.carry_out.ensures.fault
+
+pub returns-clause-unread : goal.returns-clause-unread
+returns-clause-unread g c = λ none. absurd (none (c.in_ok-command.command, c.in_ok-command.ensures.accepted))

@@ -4,7 +4,7 @@ use Rattle.top_run.specs.declared.command.Command.{Command}
 use Rattle.top_run.specs.declared.command.Command.TheVariants as commands
 use Rattle.top_run.specs.Words.{spelled, RefusedAt, IsUsage, command_word}
 use Rattle.top_run.proofs.WordRefusals.{usage_map, behind_word, no_word}
-use Rattle.top_run.proofs.CommandRefusals.{behind_ring, behind_check, behind_run, behind_slow, some_check}
+use Rattle.top_run.proofs.CommandRefusals.{behind_ring, behind_check, behind_run, behind_slow, behind_show, some_check}
 use Rattle.top_run.proofs.words.read_words.Goals as goal
 
 pub returns-in_err-read_ring-clause-refused : goal.returns-in_err-read_ring-clause-refused
@@ -35,6 +35,13 @@ returns-in_err-file-2-clause-refused c =
     let told : IsUsage (RefusedAt words) c.in_err-file-2.field-0.0 = usage_map _ (RefusedAt words) _ (λ k r. behind_word (codes "slow") words k (c.is_word-4.ensures.0 yes) (behind_slow words k r)) c.in_err-file-2.ensures.refused in
     search rules
 
+pub returns-in_err-file-3-clause-refused : goal.returns-in_err-file-3-clause-refused
+returns-in_err-file-3-clause-refused c =
+    let words = spelled c.args.words.now in
+    let yes : IsTrue c.is_word-5.result = search rules in
+    let told : IsUsage (RefusedAt words) c.in_err-file-3.field-0.0 = usage_map _ (RefusedAt words) _ (λ k r. behind_word (codes "show") words k (c.is_word-5.ensures.0 yes) (behind_show words k r)) c.in_err-file-3.ensures.refused in
+    search rules
+
 pub returns-clause-refused : goal.returns-clause-refused
 returns-clause-refused c =
     let words = spelled c.args.words.now in
@@ -42,10 +49,12 @@ returns-clause-refused c =
     let check : slice_get words 0 ≡ Some (codes "check") → ⊥ = λ h. let yes = c.is_word-2.ensures.1 h in search rules in
     let run : slice_get words 0 ≡ Some (codes "run") → ⊥ = λ h. let yes = c.is_word-3.ensures.1 h in search rules in
     let slow : slice_get words 0 ≡ Some (codes "slow") → ⊥ = λ h. let yes = c.is_word-4.ensures.1 h in search rules in
-    no_word words (no_command words ring check run slow) some_check
+    let show : slice_get words 0 ≡ Some (codes "show") → ⊥ = λ h. let yes = c.is_word-5.ensures.1 h in search rules in
+    no_word words (no_command words ring check run slow show) some_check
   where
-    no_command : (words : _) → (slice_get words 0 ≡ Some (codes "ring") → ⊥) → (slice_get words 0 ≡ Some (codes "check") → ⊥) → (slice_get words 0 ≡ Some (codes "run") → ⊥) → (slice_get words 0 ≡ Some (codes "slow") → ⊥) → (k : Command) → slice_get words 0 ≡ Some (command_word k) → ⊥
-    no_command words ring check run slow (commands.Ring r) = ring
-    no_command words ring check run slow (commands.Check f) = check
-    no_command words ring check run slow (commands.Run f o) = run
-    no_command words ring check run slow (commands.Slow f o) = slow
+    no_command : (words : _) → (slice_get words 0 ≡ Some (codes "ring") → ⊥) → (slice_get words 0 ≡ Some (codes "check") → ⊥) → (slice_get words 0 ≡ Some (codes "run") → ⊥) → (slice_get words 0 ≡ Some (codes "slow") → ⊥) → (slice_get words 0 ≡ Some (codes "show") → ⊥) → (k : Command) → slice_get words 0 ≡ Some (command_word k) → ⊥
+    no_command words ring check run slow show (commands.Ring r) = ring
+    no_command words ring check run slow show (commands.Check f) = check
+    no_command words ring check run slow show (commands.Run f o) = run
+    no_command words ring check run slow show (commands.Slow f o) = slow
+    no_command words ring check run slow show (commands.Show f a q) = show

@@ -1,0 +1,4 @@
+use Rattle.command_cases.proofs.show.Given as goal
+
+abbrev pub ghosts-run : goal.ghosts-run
+ghosts-run a b = record { name = b.blank.name; parts = b.blank.parts }
