@@ -1,7 +1,7 @@
 ghost use Rattle.std.specs.Prelude.{◌≡◌, ◌<◌, ◌≤◌, is_some, true, OnOk, OnErr, All};
-ghost use Rattle.sim_io.specs.Sink.{Rose, Got, GotPrefix, more_if, more_by};
+ghost use Rattle.sim_io.specs.Sink.{Rose, Got, GotPrefix, one_more, more_if, more_by};
 ghost use Rattle.trace_out.specs.Names.{actors_of};
-ghost use Rattle.trace_out.specs.Lines.{is_out, has_line, text_of, lines_of, line_count};
+ghost use Rattle.trace_out.specs.Lines.{is_out, line_of, has_line, text_of, lines_of, line_count};
 
 use crate::names::Names;
 use crate::record_line::line_of;
@@ -16,6 +16,22 @@ fn is_out(what: &What) -> bool
         What::Out(_) => true,
         What::Send(_) | What::Take(_) | What::Move(_) | What::Halt(_) => false,
     }
+}
+
+/// Writes the line of a record by one write. It is kept out of the caller's frame: the line stands in its own.
+#[inline(never)]
+fn write_line<K: Sink>(rec: &Record, names: &Names, sink: &mut K) -> Result<(), SinkFault>
+    requires known { rec.now.actor.0 < actors_of names.now }
+
+    ensures ok { OnOk result (Got (K.told sink.old) (K.told sink.new) (line_of names.now rec.now)) }
+    ensures prefix { OnErr result
+        (GotPrefix (K.told sink.old) (K.told sink.new) (line_of names.now rec.now)) }
+    ensures fault { OnErr result (Rose (K.faults sink.old) (K.faults sink.new)) }
+    ensures counted { K.writes sink.new ≡ one_more (K.writes sink.old) }
+    ensures never_falls { K.faults sink.old ≤ K.faults sink.new }
+    ensures telling { is_some (K.told sink.new) ≡ is_some (K.told sink.old) }
+{
+    sink.write(line_of(rec, names).as_slice())
 }
 
 /// Writes the line of a record, unless it has none.
@@ -40,7 +56,7 @@ fn write_record<K: Sink>(
     if !all && !is_out(&rec.what) {
         return Ok(());
     }
-    sink.write(line_of(rec, names).as_slice())
+    write_line(rec, names, sink)
 }
 
 /// Writes the lines of these records in order, each by one write; without `all` only those of bytes that cores wrote.
