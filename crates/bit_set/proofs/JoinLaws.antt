@@ -1,0 +1,102 @@
+-- Words that are joined, bit by bit.
+use Rattle.std.proofs.Common.{◌≡◌, ◌≢◌, ℕ, zero, suc, ◌+◌, ◌-◌, ◌*◌, ◌/◌, ◌%◌, ◌^◌, ◌<◌, ◌≤◌, max, inl, inr, List, length, get_or, set, sym, ◌∙◌, ap, arith, refl}
+use Rattle.std.specs.Prelude.{Bool, ◌==◌, ◌||◌, bit_and, bit_or}
+use Rattle.std.specs.Int.{bit_at, w64}
+use Rattle.std.proofs.lemmas.List.{get_or-set_same, get_or-set_other, length-set}
+use Rattle.std.proofs.lemmas.Bool.{cases_lt}
+use Rattle.std.proofs.lemmas.Nat.{pow_pos, shr-shr}
+use Rattle.std.proofs.lemmas.Nat.Bits.{bit_at_and, bit_at_or, bit_at_not, bit_at_mask_inside, bit_at_mask_below, bit_at_cat_low, bit_at_cat_high, bit_at_above, bit_at-zero, bit_at-lt, ones_shl}
+use Rattle.bit_set.specs.Bits.{in_words}
+
+bit_shr : (w s i : ℕ) → bit_at (w / 2 ^ s) i ≡ bit_at w (s + i)
+bit_shr w s i = ap (λ x. x % 2) (shr-shr w s i)
+
+bit_mod : (m i : ℕ) → i < 64 → bit_at (m % 18446744073709551616) i ≡ bit_at m i
+bit_mod m i b =
+    let split : m / 18446744073709551616 * 18446744073709551616 + m % 18446744073709551616 ≡ m = omega arith in
+    sym (bit_at_cat_low (m / 18446744073709551616) 64 (m % 18446744073709551616) i b) ∙ ap (λ x. bit_at x i) split
+
+bit_shl_low : (w s i : ℕ) → i < s → bit_at (w * 2 ^ s) i ≡ 0
+bit_shl_low w s i b =
+    let whole : w * 2 ^ s ≡ w * 2 ^ s + 0 = omega arith in
+    ap (λ x. bit_at x i) whole ∙ bit_at_cat_low w s 0 i b ∙ bit_at-zero i
+
+bit_shl_high : (w s i : ℕ) → s ≤ i → bit_at (w * 2 ^ s) i ≡ bit_at w (i - s)
+bit_shl_high w s i b =
+    let whole : w * 2 ^ s ≡ w * 2 ^ s + 0 = omega arith in
+    ap (λ x. bit_at x i) whole ∙ bit_at_cat_high w s 0 i (pow_pos s) b
+
+-- 64 bits of two words in a row
+pub across_low : (low high s i : ℕ) → 0 < s → s < 64 → s + i < 64 → bit_at (bit_or (low / 2 ^ s) (high * 2 ^ (64 - s) % 18446744073709551616)) i ≡ bit_at low (s + i)
+across_low low high s i some within b =
+    let rest : bit_at (high * 2 ^ (64 - s) % 18446744073709551616) i ≡ 0 = bit_mod (high * 2 ^ (64 - s)) i (omega (arith, b)) ∙ bit_shl_low high (64 - s) i (omega (arith, b, within)) in
+    bit_at_or (low / 2 ^ s) (high * 2 ^ (64 - s) % 18446744073709551616) i ∙ omega (arith, rest, bit_shr low s i)
+
+pub across_high : (low high s i : ℕ) → low < 2 ^ 64 → 0 < s → s < 64 → i < 64 → 64 ≤ s + i → bit_at (bit_or (low / 2 ^ s) (high * 2 ^ (64 - s) % 18446744073709551616)) i ≡ bit_at high (s + i - 64)
+across_high low high s i fits some within small b =
+    let none : bit_at (low / 2 ^ s) i ≡ 0 = bit_shr low s i ∙ bit_at_above low 64 (s + i) fits b in
+    let place : i - (64 - s) ≡ s + i - 64 = omega (arith, within, b) in
+    let rest : bit_at (high * 2 ^ (64 - s) % 18446744073709551616) i ≡ bit_at high (s + i - 64) =
+    bit_mod (high * 2 ^ (64 - s)) i small ∙ bit_shl_high high (64 - s) i (omega (arith, within, b)) ∙ ap (bit_at high) place in
+    bit_at_or (low / 2 ^ s) (high * 2 ^ (64 - s) % 18446744073709551616) i ∙ omega (arith, rest, none)
+
+or_test : (x y : ℕ) → x < 2 → y < 2 → (max x y == 1) ≡ ((x == 1) || (y == 1))
+or_test zero zero a b = refl
+or_test zero (suc zero) a b = refl
+or_test (suc zero) zero a b = refl
+or_test (suc zero) (suc zero) a b = refl
+or_test (suc (suc x)) y a b = absurd (omega (arith, a))
+or_test x (suc (suc y)) a b = absurd (omega (arith, b))
+
+pub either_bit : (word more i : ℕ) → (bit_at (bit_or word more) i == 1) ≡ ((bit_at word i == 1) || (bit_at more i == 1))
+either_bit word more i = ap (λ x. x == 1) (bit_at_or word more i) ∙ or_test (bit_at word i) (bit_at more i) (bit_at-lt word i) (bit_at-lt more i)
+
+-- the ones below a place
+ones_out : (at i : ℕ) → at < 64 → i < 64 → bit_at (18446744073709551615 - 18446744073709551615 * 2 ^ at % 18446744073709551616) i ≡ 1 - bit_at (2 ^ 64 - 2 ^ at) i
+ones_out at i l b =
+    bit_at_not w64 (18446744073709551615 * 2 ^ at % 18446744073709551616) i (omega arith) b
+    ∙ ap (λ m. 1 - bit_at m i) (ones_shl 64 at (omega arith))
+
+pub below_kept : (word at i : ℕ) → at < 64 → i < at → bit_at (bit_and word (18446744073709551615 - 18446744073709551615 * 2 ^ at % 18446744073709551616)) i ≡ bit_at word i
+below_kept word at i l b =
+    bit_at_and word _ i ∙ omega (arith, ones_out at i l (omega (arith, l, b)), bit_at_mask_below at 64 i b, bit_at-lt word i)
+
+pub below_none : (word at i : ℕ) → at < 64 → at ≤ i → i < 64 → bit_at (bit_and word (18446744073709551615 - 18446744073709551615 * 2 ^ at % 18446744073709551616)) i ≡ 0
+below_none word at i l from b =
+    bit_at_and word _ i ∙ omega (arith, ones_out at i l b, bit_at_mask_inside at 64 i from b)
+
+-- the first `n` words have the ones of others beside their own
+pub record IsJoined (was words : List ℕ) (In : ℕ → Bool) (n : ℕ) : Type 0 where
+  pub long : length words ≡ length was
+  pub done : (k : ℕ) → k < n * 64 → in_words words k ≡ (in_words was k || In k)
+  pub left : (k : ℕ) → n * 64 ≤ k → in_words words k ≡ in_words was k
+
+pub join_open : (was : List ℕ) (In : ℕ → Bool) → IsJoined was was In 0
+join_open was In = record {
+  long = refl;
+  done = λ k lt. absurd (omega (arith, lt));
+  left = λ k le. refl;
+}
+
+in_other : (words : List ℕ) (n w k : ℕ) → k / 64 ≢ n → in_words (set words n w) k ≡ in_words words k
+in_other words n w k ne = ap (λ x. bit_at x (k % 64) == 1) (get_or-set_other words n (k / 64) w 0 ne)
+
+pub join_on : (was words : List ℕ) (In : ℕ → Bool) (n w : ℕ) → IsJoined was words In n → n < length words → ((i : ℕ) → i < 64 → (bit_at w i == 1) ≡ ((bit_at (get_or words n 0) i == 1) || In (n * 64 + i))) → IsJoined was (set words n w) In (n + 1)
+join_on was words In n w j h bits = record {
+  long = length-set words n w ∙ j.long;
+  done = λ k lt. elim (cases_lt k (n * 64)) [
+    | inl before ↦ in_other words n w k (λ e. absurd (omega (arith, e, before))) ∙ j.done k before
+    | inr after ↦ here k (omega (arith, lt, after)) after
+  ];
+  left = λ k le. in_other words n w k (λ e. absurd (omega (arith, e, le))) ∙ j.left k (omega (arith, le));
+}
+  where
+    here : (k : ℕ) → k / 64 ≡ n → n * 64 ≤ k → in_words (set words n w) k ≡ (in_words was k || In k)
+    here k e after =
+        let number : n * 64 + k % 64 ≡ k = omega (arith, e) in
+        ap (λ x. bit_at (get_or (set words n w) x 0) (k % 64) == 1) e
+        ∙ ap (λ x. bit_at x (k % 64) == 1) (get_or-set_same words n w 0 h)
+        ∙ bits (k % 64) (omega arith)
+        ∙ ap (λ x. (bit_at (get_or words n 0) (k % 64) == 1) || In x) number
+        ∙ ap (λ x. (bit_at (get_or words x 0) (k % 64) == 1) || In k) (sym e)
+        ∙ ap (λ b. b || In k) (j.left k after)
