@@ -9,4 +9,4 @@ pub mod MarkLemmas
 pub mod MergedLemmas
 pub mod KeyLemmas
 pub mod OneTimeLemmas
-pub mod WalkLemmas
+pub mod JoinLemmas

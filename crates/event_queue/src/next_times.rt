@@ -193,6 +193,6 @@ impl NextTimes {
         ensures cost { looks.new ≤ looks.old + 2 * count_due_by self.now t + 1 }
     {
         self.heap.mark_due(t, from, below, due, looks);
-        self.near.mark_due(t, from, below, due);
+        self.near.mark_due(t, from, due);
     }
 }

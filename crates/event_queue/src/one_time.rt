@@ -120,9 +120,8 @@ impl OneTime {
         }
     }
 
-    /// Marks the actors whose time is `t`, from `from` on and below `below`, each at its number from `from` on.
-    pub fn mark_due(&self, t: Time, from: ActorNo, below: ActorNo, due: &mut BitSet)
-        requires { from.0 + length due.old ≡ below.0 }
+    /// Marks the actors whose time is `t`, from `from` on and below the end of the marks, each at its number from `from` on.
+    pub fn mark_due(&self, t: Time, from: ActorNo, due: &mut BitSet)
         ensures long { length due.new ≡ length due.old }
         ensures kept { Keeps due.old due.new }
         ensures found { OnlyAdds due.old due.new (λ i. time_of self.now (from.0 + i) ≡ Some t) }
@@ -131,13 +130,6 @@ impl OneTime {
         if self.time.0 != t.0 {
             return;
         }
-        let mut at = from.0 as usize;
-        while let Some(who) = self.actors.next(at) {
-            if who >= below.0 as usize {
-                break;
-            }
-            due.insert(who - from.0 as usize);
-            at = who + 1;
-        }
+        due.join(&self.actors, from.0);
     }
 }

@@ -9,7 +9,7 @@ use crate::edits;
 use crate::edits::place_of;
 use crate::key::Key;
 use crate::key_row::KeyRow;
-use crate::mark::mark_due;
+use crate::mark::{Asked, mark_due};
 use bit_set::BitSet;
 use sim_base::{ActorNo, OutOfMemory, Steps, Time};
 use std::alloc::Global;
@@ -156,6 +156,11 @@ impl TimeHeap {
         if self.row.is_empty() {
             return;
         }
-        mark_due(&self.row, 0, t, from.0, below.0, due, looks);
+        let asked = Asked {
+            t,
+            from: from.0,
+            below: below.0,
+        };
+        mark_due(&self.row, 0, &asked, due, looks);
     }
 }

@@ -61,9 +61,9 @@ impl TwoTimes {
         self.other.clear(who);
     }
 
-    /// Whether an actor that gets this time belongs to the first of the two, if to any: it has the time, or is empty and the other has another.
-    fn joins_one(&self, t: Time) -> bool {
-        self.one.has_time(t) || !self.other.has_time(t) && self.one.is_empty()
+    /// Whether an actor that gets this time belongs to the second of the two: it has the time, and the first has another.
+    fn joins_other(&self, t: Time) -> bool {
+        self.other.has_time(t) && !self.one.has_time(t)
     }
 
     /// Gives an actor that has no time this one, where it is one of the two or fewer than two are there. Whether it did.
@@ -74,11 +74,13 @@ impl TwoTimes {
         ensures joined { IsTrue result → self.new ≡ slice_set self.old who.0 (Some t) }
         ensures refused { result ≡ false → self.new ≡ self.old }
     {
-        if self.joins_one(t) {
-            self.one.join(who, t)
-        } else {
-            self.other.join(who, t)
+        if self.joins_other(t) {
+            return self.other.join(who, t);
         }
+        if self.one.join(who, t) {
+            return true;
+        }
+        self.other.join(who, t)
     }
 
     /// The least time with the least actor that has it. None where no actor has a time.
@@ -105,15 +107,14 @@ impl TwoTimes {
         }
     }
 
-    /// Marks the actors whose time is `t`, from `from` on and below `below`, each at its number from `from` on.
-    pub fn mark_due(&self, t: Time, from: ActorNo, below: ActorNo, due: &mut BitSet)
-        requires { from.0 + length due.old ≡ below.0 }
+    /// Marks the actors whose time is `t`, from `from` on and below the end of the marks, each at its number from `from` on.
+    pub fn mark_due(&self, t: Time, from: ActorNo, due: &mut BitSet)
         ensures long { length due.new ≡ length due.old }
         ensures kept { Keeps due.old due.new }
         ensures found { OnlyAdds due.old due.new (λ i. time_of self.now (from.0 + i) ≡ Some t) }
         ensures marked { AllMarked self.now t from.0 (length due.old) due.new }
     {
-        self.one.mark_due(t, from, below, due);
-        self.other.mark_due(t, from, below, due);
+        self.one.mark_due(t, from, due);
+        self.other.mark_due(t, from, due);
     }
 }
