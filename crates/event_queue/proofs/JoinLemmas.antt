@@ -47,3 +47,12 @@ module _ (times : List (Option Time)) (t u : Time) (actors was now : List Bool) 
 
   pub marked_in : AreJoined actors was now from → times_in t actors ≡ times → (i : ℕ) → i < length was → time_of times (from + i) ≡ Some u → is_in now i ≡ true
   marked_in joined view i within e = joined i within ∙ or_true _ _ (time_from t actors (from + i) u (ap (λ l. time_of l (from + i)) view ∙ e)).0
+
+  pub taken_only : length now ≡ length was → ((i : ℕ) → i < length was → is_in now i ≡ is_in actors (from + i)) → times_in t actors ≡ times → t.0 ≡ u.0 → (i : ℕ) → is_in now i ≡ true → time_of times (from + i) ≡ Some u
+  taken_only long taken view same i h = elim (cases_lt i (length was)) [
+    | inl lt ↦ sym (ap (λ l. time_of l (from + i)) view) ∙ time_is t actors (from + i) (sym (taken i lt) ∙ h) ∙ ap (λ n. Some (record { 0 = n })) same
+    | inr past ↦ absurd (false≢true (sym (get_or_past now i false (omega (arith, past, long))) ∙ h))
+  ]
+
+  pub taken_marked : ((i : ℕ) → i < length was → is_in now i ≡ is_in actors (from + i)) → times_in t actors ≡ times → (i : ℕ) → i < length was → time_of times (from + i) ≡ Some u → is_in now i ≡ true
+  taken_marked taken view i within e = taken i within ∙ (time_from t actors (from + i) u (ap (λ l. time_of l (from + i)) view ∙ e)).0

@@ -1,6 +1,6 @@
 -- The list of optional times that a set of actors with one time shows.
-use Rattle.std.proofs.Common.{◌≡◌, ◌≢◌, ℕ, ◌<◌, List, length, set, replicate, Some, None, Bool, true, false, inl, inr, refl, ap, sym, ◌∙◌, arith}
-use Rattle.std.proofs.lemmas.Bool.{cases_lt, false≢true}
+use Rattle.std.proofs.Common.{◌≡◌, ◌≢◌, ℕ, eqb, ◌<◌, List, length, set, replicate, Some, None, Bool, true, false, inl, inr, refl, ap, sym, ◌∙◌, arith}
+use Rattle.std.proofs.lemmas.Bool.{cases_lt, false≢true, eq-eqb}
 use Rattle.std.proofs.lemmas.List.{same_lists, get_or_past, get_or-map, length-map, length-replicate, get_or-replicate, map-set}
 use Rattle.std.proofs.lemmas.Option.{none-some, cond_some}
 use Rattle.sim_base.specs.declared.time.Time.{Time}
@@ -88,3 +88,6 @@ least_due_in t u actors from below who next lt e = record {
   due = time_is t actors who next.here ∙ ap (λ v. Some v) e;
   least = none_due_in t u actors from who next.least;
 }
+
+pub other_time : (t u : Time) (actors : List Bool) → eqb t.0 u.0 ≡ false → (i : ℕ) → time_of (times_in t actors) i ≢ Some u
+other_time t u actors out i e = false≢true (sym out ∙ eq-eqb _ _ (ap (λ (v : Time). v.0) (time_from t actors i u e).1))

@@ -192,7 +192,7 @@ impl NextTimes {
         ensures only { (i : ℕ) → is_in due.new i ≡ true → time_of self.now (from.0 + i) ≡ Some t }
         ensures cost { looks.new ≤ looks.old + 2 * count_due_by self.now t + 1 }
     {
+        self.near.take_due(t, from, due);
         self.heap.mark_due(t, from, below, due, looks);
-        self.near.mark_due(t, from, due);
     }
 }

@@ -1,4 +1,5 @@
-ghost use Rattle.std.specs.Prelude.{◌≡◌, ◌+◌, ◌<◌, true, false, Some, None, length, replicate, slice_set, IsTrue, IfNone, IfOk, IfSome};
+ghost use Rattle.std.specs.Prelude.{◌≡◌, ◌≢◌, ℕ, ◌+◌, ◌<◌, true, false, Some, None, length, replicate, slice_set, IsTrue, IfNone, IfOk, IfSome};
+ghost use Rattle.bit_set.specs.Bits.{is_in};
 ghost use Rattle.event_queue.specs.Mark.{AllMarked, OnlyAdds, Keeps};
 ghost use Rattle.event_queue.specs.NextTimes.{time_of, NoneDue, IsLeastDue};
 ghost use Rattle.event_queue.specs.Merged.{IsLeastIn, NoTimes};
@@ -70,7 +71,9 @@ impl OneTime {
     }
 
     /// Whether the time of those that have one is this, or was this when an actor last had one.
-    pub fn has_time(&self, t: Time) -> bool {
+    pub fn has_time(&self, t: Time) -> bool
+        ensures { result ≡ false → (i : ℕ) → time_of self.now i ≢ Some t }
+    {
         self.time.0 == t.0
     }
 
@@ -118,6 +121,19 @@ impl OneTime {
         } else {
             None
         }
+    }
+
+    /// The marks become the actors whose time is `t`, from `from` on and below the end of the marks, each at its number from `from` on.
+    pub fn take_due(&self, t: Time, from: ActorNo, due: &mut BitSet)
+        ensures long { length due.new ≡ length due.old }
+        ensures marked { AllMarked self.now t from.0 (length due.old) due.new }
+        ensures only { (i : ℕ) → is_in due.new i ≡ true → time_of self.now (from.0 + i) ≡ Some t }
+    {
+        if self.time.0 != t.0 {
+            due.clear();
+            return;
+        }
+        due.take(&self.actors, from.0);
     }
 
     /// Marks the actors whose time is `t`, from `from` on and below the end of the marks, each at its number from `from` on.

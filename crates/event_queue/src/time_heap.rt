@@ -1,6 +1,5 @@
-ghost use Rattle.std.specs.Prelude.{◌≡◌, ℕ, ◌+◌, ◌*◌, ◌^◌, ◌<◌, ◌≤◌, true, false, Some, None, length, replicate, slice_set, IfNone, IfOk, IfSome};
-ghost use Rattle.bit_set.specs.Bits.{is_in};
-ghost use Rattle.event_queue.specs.Mark.{AllMarked};
+ghost use Rattle.std.specs.Prelude.{◌≡◌, ℕ, ◌+◌, ◌*◌, ◌^◌, ◌<◌, ◌≤◌, false, Some, None, length, replicate, slice_set, IfNone, IfOk, IfSome};
+ghost use Rattle.event_queue.specs.Mark.{AllMarked, OnlyAdds, Keeps};
 ghost use Rattle.event_queue.specs.NextTimes.{time_of, NoneDue, IsLeastDue, count_due_by, earlier_set};
 ghost use Rattle.event_queue.specs.Merged.{IsLeastIn};
 
@@ -137,7 +136,7 @@ impl TimeHeap {
 }
 
 impl TimeHeap {
-    /// The set of the actors whose time is `t`, from `from` on and below `below`, each at its number from `from` on.
+    /// Marks the actors whose time is `t`, from `from` on and below `below`, each at its number from `from` on.
     pub fn mark_due<L: Ledger>(
         &self,
         t: Time,
@@ -148,11 +147,11 @@ impl TimeHeap {
     )
         requires { from.0 + length due.old ≡ below.0 }
         ensures long { length due.new ≡ length due.old }
+        ensures kept { Keeps due.old due.new }
+        ensures found { OnlyAdds due.old due.new (λ i. time_of self.now (from.0 + i) ≡ Some t) }
         ensures marked { AllMarked self.now t from.0 (length due.old) due.new }
-        ensures only { (i : ℕ) → is_in due.new i ≡ true → time_of self.now (from.0 + i) ≡ Some t }
         ensures cost { looks.new ≤ looks.old + 2 * count_due_by self.now t + 1 }
     {
-        due.clear();
         if self.row.is_empty() {
             return;
         }

@@ -1,5 +1,6 @@
-ghost use Rattle.std.specs.Prelude.{◌≡◌, ◌+◌, ◌<◌, false, Some, None, length, replicate, slice_set, IsTrue, IfNone, IfOk, IfSome};
-ghost use Rattle.event_queue.specs.Mark.{AllMarked, OnlyAdds, Keeps};
+ghost use Rattle.std.specs.Prelude.{◌≡◌, ℕ, ◌+◌, ◌<◌, true, false, Some, None, length, replicate, slice_set, IsTrue, IfNone, IfOk, IfSome};
+ghost use Rattle.bit_set.specs.Bits.{is_in};
+ghost use Rattle.event_queue.specs.Mark.{AllMarked};
 ghost use Rattle.event_queue.specs.NextTimes.{time_of, NoneDue, IsLeastDue};
 ghost use Rattle.event_queue.specs.Merged.{IsLeastIn};
 
@@ -107,14 +108,17 @@ impl TwoTimes {
         }
     }
 
-    /// Marks the actors whose time is `t`, from `from` on and below the end of the marks, each at its number from `from` on.
-    pub fn mark_due(&self, t: Time, from: ActorNo, due: &mut BitSet)
+    /// The marks become the actors whose time is `t`, from `from` on and below the end of the marks, each at its number from `from` on.
+    pub fn take_due(&self, t: Time, from: ActorNo, due: &mut BitSet)
         ensures long { length due.new ≡ length due.old }
-        ensures kept { Keeps due.old due.new }
-        ensures found { OnlyAdds due.old due.new (λ i. time_of self.now (from.0 + i) ≡ Some t) }
         ensures marked { AllMarked self.now t from.0 (length due.old) due.new }
+        ensures only { (i : ℕ) → is_in due.new i ≡ true → time_of self.now (from.0 + i) ≡ Some t }
     {
-        self.one.mark_due(t, from, due);
+        if !self.one.has_time(t) {
+            self.other.take_due(t, from, due);
+            return;
+        }
+        self.one.take_due(t, from, due);
         self.other.mark_due(t, from, due);
     }
 }

@@ -1,12 +1,7 @@
 -- What is marked from the root on is who is due.
-use Rattle.std.proofs.Common.{◌≡◌, ℕ, ◌+◌, ◌⊎◌, inl, inr, length, ap, sym, ◌∙◌, refl, arith}
-use Rattle.std.specs.Prelude.{true, Some}
-use Rattle.std.proofs.lemmas.Bool.{false≢true}
-use Rattle.bit_set.specs.Bits.{is_in}
+use Rattle.std.proofs.Common.{◌+◌, inl, inr, length, ap, sym, ◌∙◌, refl, arith}
 use Rattle.event_queue.specs.NextTimes.{time_of}
-use Rattle.event_queue.specs.Due.{IsDue}
 use Rattle.event_queue.proofs.DueLemmas.{levels_enough}
-use Rattle.event_queue.proofs.MarkLemmas.{none_marked}
 use Rattle.event_queue.proofs.TimesLemmas.{none_due_in_empty, marked-from_tree, time_of-due, tree_sum-le-count}
 use Rattle.event_queue.proofs.time_heap.TimeHeap.mark_due.Goals as goal
 
@@ -18,12 +13,11 @@ pub returns-clause-marked : goal.returns-clause-marked
 returns-clause-marked g c = λ i b e.
     marked-from_tree c.self.inside.row c.self.inside.places.items c.args.t c.args.from.0 c.args.below.0 c.mark_due.new.due c.self.invariant c.mark_due.ensures.all i (omega (arith, b, c.requires)) (ap (λ l. time_of l (c.args.from.0 + i)) c.self.view_is ∙ e)
 
-pub returns-clause-only : goal.returns-clause-only
-returns-clause-only g c = λ i h. at i (c.mark_due.ensures.found i h)
-  where
-    at : (i : ℕ) → (is_in c.clear.new.self i ≡ true) ⊎ IsDue c.self.inside.row.pairs c.args.t c.args.from.0 (c.args.from.0 + i) → time_of c.args.self.now (c.args.from.0 + i) ≡ Some c.args.t
-    at i (inl e) = absurd (false≢true (sym (none_marked (length c.args.due.now) i) ∙ sym (ap (λ l. is_in l i) c.clear.ensures) ∙ e))
-    at i (inr d) = ap (λ l. time_of l (c.args.from.0 + i)) (sym c.self.view_is) ∙ time_of-due c.self.inside.row c.self.inside.places.items c.args.t c.args.from.0 (c.args.from.0 + i) c.self.invariant d
+pub returns-clause-found : goal.returns-clause-found
+returns-clause-found g c = λ i h. elim (c.mark_due.ensures.found i h) [
+  | inl was ↦ inl was
+  | inr d ↦ inr (ap (λ l. time_of l (c.args.from.0 + i)) (sym c.self.view_is) ∙ time_of-due c.self.inside.row c.self.inside.places.items c.args.t c.args.from.0 (c.args.from.0 + i) c.self.invariant d)
+]
 
 pub returns-clause-cost : goal.returns-clause-cost
 returns-clause-cost g c =
