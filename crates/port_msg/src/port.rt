@@ -1,4 +1,4 @@
-ghost use Rattle.std.specs.Prelude.{◌≡◌, ◌-◌, ◌<◌, ◌≤◌, ◌↔◌, [], length, drop, slice_get, IfOk, IfErr, OnOk, OnErr, IsOk};
+ghost use Rattle.std.specs.Prelude.{◌≡◌, ◌-◌, ◌<◌, ◌≤◌, ◌↔◌, [], length, drop, slice_get, option_copied, IfOk, IfErr, OnOk, OnErr, IsOk};
 ghost use Rattle.port_msg.specs.PortView.{port_view, with_sent, with_delivered, IsWithin};
 
 use crate::message::Msg;
@@ -24,7 +24,6 @@ pub struct Full {
 pub struct Port {
     incoming: HeapCircularBuffer<Msg>,
     outgoing: HeapCircularBuffer<Msg>,
-    cap: u32,
 }
 
 impl Model for Port {
@@ -33,9 +32,9 @@ impl Model for Port {
 
     ghost Value = { PortView };
 
-    ghost view = { λ p. record { incoming = p.incoming.items; outgoing = p.outgoing.items; cap = p.cap } };
+    ghost view = { λ p. record { incoming = p.incoming.items; outgoing = p.outgoing.items; cap = p.incoming.capacity } };
 
-    ghost invariant = { λ p. (p.incoming.capacity ≡ p.cap) × (p.outgoing.capacity ≡ p.cap) × (length p.incoming.items ≤ p.cap) × (length p.outgoing.items ≤ p.cap) × (p.cap ≤ 64) };
+    ghost invariant = { λ p. (p.outgoing.capacity ≡ p.incoming.capacity) × (length p.incoming.items ≤ p.incoming.capacity) × (length p.outgoing.items ≤ p.incoming.capacity) × (p.incoming.capacity ≤ 64) };
 }
 
 impl Port {
@@ -47,11 +46,7 @@ impl Port {
     {
         let incoming = HeapCircularBuffer::with_capacity(alloc, cap as usize)?;
         let outgoing = HeapCircularBuffer::with_capacity(alloc, cap as usize)?;
-        Ok(Port {
-            incoming,
-            outgoing,
-            cap,
-        })
+        Ok(Port { incoming, outgoing })
     }
 
     /// The first incoming message, or None where there is none.
@@ -74,7 +69,7 @@ impl Port {
         ensures room { result ≡ self.now.cap - length self.now.incoming }
         ensures within { IsWithin (length self.now.incoming) self.now.cap }
     {
-        self.cap - (self.incoming.len() as u32)
+        (self.incoming.capacity() - self.incoming.len()) as u32
     }
 
     /// The first outgoing message, or None where there is none.
@@ -82,6 +77,13 @@ impl Port {
         ensures { result ≡ slice_get self.now.outgoing 0 }
     {
         self.outgoing.front().copied()
+    }
+
+    /// The first outgoing message, which stays where it is, or None where there is none.
+    pub fn out_front(&self) -> Option<&Msg>
+        ensures { option_copied result ≡ slice_get self.now.outgoing 0 }
+    {
+        self.outgoing.front()
     }
 
     /// Removes the first outgoing message, or answers None where there is none.
@@ -97,7 +99,7 @@ impl Port {
         ensures room { result ≡ self.now.cap - length self.now.outgoing }
         ensures within { IsWithin (length self.now.outgoing) self.now.cap }
     {
-        self.cap - (self.outgoing.len() as u32)
+        (self.outgoing.capacity() - self.outgoing.len()) as u32
     }
 
     /// Appends a message to the outgoing list. It is handed back, with nothing changed, exactly where that is full.

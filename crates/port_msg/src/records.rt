@@ -92,6 +92,10 @@ impl RecList {
         requires { length self.old.items < self.old.room }
         ensures { self.new ≡ appended self.old what }
     {
+        // There is room, so that a list that grows needs no code here.
+        if self.items.len() == self.items.capacity() {
+            unreachable!();
+        }
         let made = self.items.push(Record {
             at: self.at,
             actor: self.actor,

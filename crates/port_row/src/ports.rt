@@ -1,5 +1,5 @@
-ghost use Rattle.std.specs.Prelude.{◌≡◌, ◌-◌, ◌^◌, ◌<◌, ◌↔◌, length, map, slice_get, vec_len, IfErr, IfNone, IfOk, IfSome, IsOk, OnErr, OnOk};
-ghost use Rattle.port_row.specs.Row.{port_at, face_of, face_at, has_out, in_taken, out_taken, sent, delivered, NoOut, IsNextOut, NoChange, IsNextTouched, Settling, with_port, incoming_room, outgoing_room, TakesIncoming, TakesOutgoing, IncomingIsWithin, OutgoingIsWithin, settled, settled_at, with_sent, with_delivered};
+ghost use Rattle.std.specs.Prelude.{◌≡◌, ◌-◌, ◌^◌, ◌<◌, ◌↔◌, length, map, option_copied, slice_get, vec_len, IfErr, IfNone, IfOk, IfSome, IsOk, IsTrue, OnErr, OnOk, Some};
+ghost use Rattle.port_row.specs.Row.{port_at, face_of, face_at, has_out, in_taken, out_taken, sent, delivered, NoOut, IsNextOut, NoChange, IsNextTouched, Settling, with_port, incoming_room, outgoing_room, TakesIncoming, TakesOutgoing, IncomingIsWithin, OutgoingIsWithin, settled, settled_at, with_sent, with_delivered, forwarded};
 
 use crate::face::{Face, face_of};
 use bit_set::BitSet;
@@ -134,6 +134,14 @@ impl Ports {
         self.ports[k].out_head()
     }
 
+    /// The first outgoing message of a port, which stays where it is, or None where there is none.
+    pub fn out_front(&self, k: usize) -> Option<&Msg>
+        requires { k < length self.now.ports }
+        ensures { option_copied result ≡ slice_get (port_at self.now.ports k).outgoing 0 }
+    {
+        self.ports[k].out_front()
+    }
+
     /// Removes the first outgoing message of a port, or answers None where there is none.
     pub fn out_take(&mut self, k: usize) -> Option<Msg>
         requires { k < length self.old.ports }
@@ -183,6 +191,26 @@ impl Ports {
         self.ports[k].deliver(msg)?;
         self.touched.insert(k);
         Ok(())
+    }
+
+    /// Moves the first outgoing message of a port to the end of the incoming list of a port that has room, which can be the same.
+    /// The answer is the message.
+    pub fn forward(&mut self, from: usize, to: usize) -> Msg
+        requires from { from < length self.old.ports }
+        requires to { to < length self.old.ports }
+        requires some { IsTrue (has_out (port_at self.old.ports from)) }
+        requires room { TakesIncoming (port_at self.old.ports to) }
+        ensures head { slice_get (port_at self.old.ports from).outgoing 0 ≡ Some result }
+        ensures moved { self.new ≡ forwarded self.old from to result }
+    {
+        let Some(msg) = self.ports[from].out_head() else {
+            unreachable!()
+        };
+        let Ok(()) = self.deliver(to, msg) else {
+            unreachable!()
+        };
+        let _ = self.out_take(from);
+        msg
     }
 
     /// The least place, from `from` on, whose outgoing list is not empty.
