@@ -69,9 +69,9 @@ module _ {S : Type 0} where
   read_at xs i x b is = slice_get-get_or xs i x b ∙ ap (λ y. Some y) (sym is)
 
   -- without an edge nothing has changed
-  pub acted_wait : (m : Machine S) (mine : SideGear) (i t p : ℕ) (s : S) (old : ActState S) (begun : RecView) → CanAct m mine i t old → begun ≡ record old.recs { at = t; actor = mine.first + i } → s ≡ get_or old.actors i s → p ≡ m.period s → (t % p ≡ 0 → ⊥) →
-      HasActed m mine i t old (record old { actors = slice_set old.actors i s; recs = begun }) false
-  acted_wait m mine i t p s old begun can starts is per apart =
+  pub acted_wait : (m : Machine S) (mine : SideGear) (i t p : ℕ) (s : S) (old : ActState S) → CanAct m mine i t old → s ≡ get_or old.actors i s → p ≡ m.period s → (t % p ≡ 0 → ⊥) →
+      HasActed m mine i t old (record old { actors = slice_set old.actors i s }) false
+  acted_wait m mine i t p s old can is per apart =
       let own = own_of mine.wiring i in
       let states = old.actors in
       let ports = old.rows.ports in
@@ -86,10 +86,9 @@ module _ {S : Type 0} where
         wires = refl;
         long = refl;
         others = λ q n. refl;
-        room = ap (λ (r : RecView). r.room) starts;
+        room = refl;
         records_are =
-            ap (λ (r : RecView). r.items) starts
-            ∙ sym (append-nil old.recs.items)
+            sym (append-nil old.recs.items)
             ∙ sym (ap (λ o. old.recs.items ++ records_at t (mine.first + i) (whats_of o)) none);
         flag_is = sym (ap (λ o. flag_of o) none);
         steps_are = omega (arith, ap (λ o. charge_of o) none);

@@ -52,6 +52,27 @@ impl Beat {
         }
     }
 
+    /// The last edge up to `t` of a clock of this period, found without a division where it is the one that is known here.
+    pub fn near(&self, t: u64, period: u64) -> Beat
+        requires some { 1 ≤ period }
+        requires short { period ≤ LONGEST_PERIOD }
+        requires early { t ≤ LATEST_TICK }
+    {
+        if period == self.period && t == self.edge {
+            return Beat {
+                period,
+                cycle: self.cycle,
+                edge: t,
+            };
+        }
+        let cycle = t / period;
+        Beat {
+            period,
+            cycle,
+            edge: cycle * period,
+        }
+    }
+
     /// The number of the edge at `t` of a clock of this period, or None where it has none there.
     pub fn cycle_at(&self, t: u64, period: u64) -> Option<u64>
         requires { 1 ≤ period }

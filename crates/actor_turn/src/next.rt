@@ -6,7 +6,7 @@ ghost use Rattle.actor_turn.specs.Next.{left_by};
 ghost use Rattle.model_laws.specs.NextTable.{next_by};
 ghost use Rattle.model_laws.specs.SideTimes.{number_of, timed};
 
-use crate::side::SideGear;
+use crate::side::{SideGear, TurnAt};
 use event_queue::NextTimes;
 use sim_base::{ActorNo, Steps, Time};
 use std::sync::ledger::Ledger;
@@ -65,27 +65,26 @@ impl SideGear {
         }
     }
 
-    /// Notes the next time that the step of actor `no` of this side at `t` leaves it.
+    /// Notes the next time that the step of an actor of this side in its turn leaves it.
     pub fn note_next<S: Actor, L: Ledger>(
         &self,
         actor: &S,
-        no: u32,
-        t: u64,
+        turn: &TurnAt,
         flag: bool,
         next: &mut NextTimes,
         looks: &mut Steps<L>,
     )
-        requires there { self.now.first + no < length next.old }
-        requires few { self.now.first + no < 2 ^ 32 }
-        requires time { t ≤ LATEST_TICK }
-        ensures { next.new ≡ slice_set next.old (self.now.first + no)
-            (timed (left_by S.machine t flag
-            (number_of (time_of next.old (self.now.first + no))) actor.now)) }
+        requires there { self.now.first + turn.now.no < length next.old }
+        requires few { self.now.first + turn.now.no < 2 ^ 32 }
+        requires time { turn.now.t ≤ LATEST_TICK }
+        ensures { next.new ≡ slice_set next.old (self.now.first + turn.now.no)
+            (timed (left_by S.machine turn.now.t flag
+            (number_of (time_of next.old (self.now.first + turn.now.no))) actor.now)) }
     {
-        let Some(cycle) = self.beat.cycle_at(t, actor.period()) else {
+        let Some(cycle) = turn.beat.cycle_at(turn.t, actor.period()) else {
             return;
         };
-        let left = left_at_edge(actor, t, cycle, flag);
-        set_next(next, ActorNo(self.first + no), left, looks);
+        let left = left_at_edge(actor, turn.t, cycle, flag);
+        set_next(next, ActorNo(self.first + turn.no), left, looks);
     }
 }

@@ -4,6 +4,7 @@ ghost use Rattle.tick_law.specs.Wires.{own_of};
 ghost use Rattle.actor_turn.specs.Turn.{CanTurn, HasTurned, GearStays, hand_at, links_in, parts_in};
 
 use crate::gear::RowGear;
+use crate::side::TurnAt;
 use crate::wake::{wake_links, wake_parts};
 use port_rows::World;
 use sim_base::Steps;
@@ -29,10 +30,12 @@ pub fn link_turn<P: Drop, N: Actor + Drop, L: Ledger, M: Ledger>(
     ensures parts { world.new.parts ≡ world.old.parts }
     ensures stays { GearStays gear.old gear.new }
 {
-    let flag = gear.links.act_link(world, no, t, &mut gear.recs, steps);
+    let beat = gear.links.beat.near(t, world.links[no as usize].period());
+    let turn = TurnAt { no, t, beat };
+    let flag = gear.links.act_link(world, &turn, &mut gear.recs, steps);
     let link = &world.links[no as usize];
     gear.links
-        .note_next(link, no, t, flag, &mut gear.next, looks);
+        .note_next(link, &turn, flag, &mut gear.next, looks);
     wake_parts(
         &mut world.rows,
         no,
@@ -64,14 +67,16 @@ pub fn part_turn<P: Actor + Drop, N: Drop, L: Ledger, M: Ledger>(
     ensures links { world.new.links ≡ world.old.links }
     ensures stays { GearStays gear.old gear.new }
 {
+    let beat = gear.parts.beat.near(t, world.parts[no as usize].period());
+    let turn = TurnAt { no, t, beat };
     let ports = gear.parts.wiring.own(no).len();
     let hand = &mut gear.hands[ports];
     let flag = gear
         .parts
-        .act_part(world, hand, no, t, &mut gear.recs, steps);
+        .act_part(world, hand, &turn, &mut gear.recs, steps);
     let part = &world.parts[no as usize];
     gear.parts
-        .note_next(part, no, t, flag, &mut gear.next, looks);
+        .note_next(part, &turn, flag, &mut gear.next, looks);
     let own = gear.parts.wiring.own(no);
     wake_links(&mut world.rows, own, &gear.links, t, &mut gear.next, looks);
     flag

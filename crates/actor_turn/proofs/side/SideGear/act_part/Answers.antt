@@ -6,22 +6,22 @@ use Rattle.actor_turn.proofs.side.SideGear.act_part.Goals as goal
 
 pub returns-in_default-clause-acted : goal.returns-in_default-clause-acted
 returns-in_default-clause-acted g c =
-    acted_wait g.P.Actor.machine c.args.self.now c.args.no c.args.t c.period-period.result c.index_mut-part.result.now (parts_acting c.args.world.now c.args.recs.now c.args.steps.now) c.begin.new.self
-    c.requires.can c.begin.ensures c.index_mut-part.ensures.value c.period-period.ensures.period c.in_default.ensures.none
+    acted_wait g.P.Actor.machine c.args.self.now c.args.turn.now.no c.args.turn.now.t c.period-period.result c.index_mut-part.result.now (parts_acting c.args.world.now c.args.recs.now c.args.steps.now)
+    c.requires.can c.index_mut-part.ensures.value c.period-period.ensures.period c.in_default.ensures.none
 
 pub tick_part-requires-clause-within : goal.tick_part-requires-clause-within
-tick_part-requires-clause-within g c = λ q h. c.requires.can.wired.within c.args.no q (subst (λ l. Has l q) c.own-own.ensures h)
+tick_part-requires-clause-within g c = λ q h. c.requires.can.wired.within c.args.turn.now.no q (subst (λ l. Has l q) c.own-own.ensures h)
 
 pub tick_part-requires-clause-apart : goal.tick_part-requires-clause-apart
-tick_part-requires-clause-apart g c = subst (λ l. AllApart l) (sym c.own-own.ensures) (c.requires.can.wired.apart c.args.no)
+tick_part-requires-clause-apart g c = subst (λ l. AllApart l) (sym c.own-own.ensures) (c.requires.can.wired.apart c.args.turn.now.no)
 
 pub tick_part-requires-clause-own : goal.tick_part-requires-clause-own
 tick_part-requires-clause-own g c =
     ap length c.own-own.ensures
-    ∙ c.requires.can.count c.index_mut-part.result.now (read_at c.args.world.now.parts.items c.args.no c.index_mut-part.result.now c.requires.can.here c.index_mut-part.ensures.value)
+    ∙ c.requires.can.count c.index_mut-part.result.now (read_at c.args.world.now.parts.items c.args.turn.now.no c.index_mut-part.result.now c.requires.can.here c.index_mut-part.ensures.value)
 
 pub returns-clause-acted : goal.returns-clause-acted
 returns-clause-acted g c =
     let e = c.tick_part.ensures in
-    acted_edge g.P.Actor.machine c.args.self.now c.own-own.result.now c.args.no c.args.t c.period-period.result c.in-Some.cycle c.index_mut-part.result.now c.tick_part.new.part (parts_acting c.args.world.now c.args.recs.now c.args.steps.now) c.begin.new.self c.tick_part.new.self c.tick_part.new.recs c.tick_part.new.steps c.tick_part.result
+    acted_edge g.P.Actor.machine c.args.self.now c.own-own.result.now c.args.turn.now.no c.args.turn.now.t c.period-period.result c.in-Some.cycle c.index_mut-part.result.now c.tick_part.new.part (parts_acting c.args.world.now c.args.recs.now c.args.steps.now) c.begin.new.self c.tick_part.new.self c.tick_part.new.recs c.tick_part.new.steps c.tick_part.result
     c.requires.can c.begin.ensures c.own-own.ensures c.index_mut-part.ensures.value c.period-period.ensures.period c.in-Some.ensures.edge c.in-Some.ensures.number e.long e.state e.ports e.records e.flag e.steps
