@@ -1,5 +1,5 @@
 -- What one actor's step leaves, where actors and ports all stand in their places.
-use Rattle.std.proofs.Common.{◌≡◌, ℕ, ◌+◌, ◌<◌, ◌/◌, ◌%◌, ◌++◌, List, [], length, get_or, sym, ◌∙◌, ap, subst, arith, refl}
+use Rattle.std.proofs.Common.{◌≡◌, ℕ, ◌+◌, ◌<◌, ◌/◌, ◌%◌, ◌++◌, List, [], ◌∷◌, length, get_or, sym, ◌∙◌, ap, subst, arith, refl}
 use Rattle.std.specs.Prelude.{Option, Some, None, Bool, true, false, ◌==◌, IsTrue, slice_get, slice_set}
 use Rattle.std.proofs.lemmas.Bool.{false≢true, eq-eqb, ne_eqb}
 use Rattle.std.proofs.lemmas.Option.{slice_get-get_or}
@@ -7,6 +7,7 @@ use Rattle.std.proofs.lemmas.List.{append-nil, set-get_or, length-set}
 use Rattle.port_msg.specs.RecView.{RecView, appended_all, records_at}
 use Rattle.port_msg.specs.PortView.{PortView, port_view}
 use Rattle.tick_law.specs.Machine.{Machine, Outcome}
+use Rattle.tick_law.specs.Quiet.{Quiet}
 use Rattle.tick_law.specs.Wires.{own_of, Has}
 use Rattle.tick_law.specs.WorldPlaces.{SidePlaces, alls, emptied}
 use Rattle.tick_law.specs.Pass.{gather, has_edge, port_at}
@@ -129,3 +130,14 @@ module _ {S : Type 0} where
         steps_are = omega (arith, steps_are, ap (λ o. charge_of o) gave);
         gives_all = λ x at' edge'. same_long m row t ports s x (same_state s x (sym at ∙ at')) full;
       }
+
+-- ports that go back as they were change nothing
+pub scatter_same : (ports : List PortView) (own : List ℕ) → scatter ports own (gather ports own) ≡ ports
+scatter_same ports [] = refl
+scatter_same ports (q ∷ own) = ap (λ l. slice_set l q (port_at ports q)) (scatter_same ports own) ∙ set-get_or ports q (port_view [] [] 0)
+
+module _ {S : Type 0} where
+  -- a step without progress leaves all ports as they were
+  pub ports_still : (m : Machine S) (s : S) (own : List ℕ) (n : ℕ) (ports : List PortView) (rows old : RowsView) → Quiet S m s (gather ports own) n → rows ≡ record old { ports = scatter ports own (m.step s (gather ports own) n).ports } → rows.ports ≡ ports
+  ports_still m s own n ports rows old quiet rows_are =
+      ap (λ (v : RowsView). v.ports) rows_are ∙ ap (scatter ports own) quiet.ports ∙ scatter_same ports own

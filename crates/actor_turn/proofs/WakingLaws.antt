@@ -1,7 +1,7 @@
 -- One port more is looked at.
-use Rattle.std.proofs.Common.{◌≡◌, ◌≢◌, ℕ, ◌+◌, ◌-◌, ◌<◌, ◌≤◌, ◌⊎◌, inl, inr, List, length, get_or, set, take, sym, ◌∙◌, ap, subst, arith, refl, zero, suc}
+use Rattle.std.proofs.Common.{◌≡◌, ◌≢◌, ℕ, ◌+◌, ◌-◌, ◌<◌, ◌≤◌, ◌⊎◌, inl, inr, List, length, get_or, map, set, take, sym, ◌∙◌, ap, subst, arith, refl, zero, suc}
 use Rattle.std.specs.Prelude.{Option, Some, Bool, true, false, ◌||◌}
-use Rattle.std.proofs.lemmas.List.{get_or-set_same, get_or-set_other, length-set, length-take, get_or-take}
+use Rattle.std.proofs.lemmas.List.{get_or-set_same, get_or-set_other, length-set, length-take, get_or-take, set-get_or}
 use Rattle.std.proofs.lemmas.Bool.{cases_eq}
 use Rattle.sim_base.specs.declared.time.Time.{Time}
 use Rattle.event_queue.specs.NextTimes.{time_of}
@@ -15,7 +15,8 @@ use Rattle.model_laws.proofs.SideTimesLaws.{half_in, length-half, number-timed}
 use Rattle.model_laws.proofs.WokenByChanges.{Woke, woke_none, woke_skip, woke_more, elsewhere}
 use Rattle.port_row.specs.declared.face.Face.{Face}
 use Rattle.port_row.specs.Row.{face_at, face_of, no_face}
-use Rattle.port_rows.specs.Rows.{RowsView, other_face}
+use Rattle.port_row.proofs.RowLaws.{face-map}
+use Rattle.port_rows.specs.Rows.{RowsView, other_face, settled_at}
 use Rattle.actor_turn.specs.declared.side.SideGear.{SideGear}
 use Rattle.actor_turn.specs.Waking.{CanWake, woken_by, shows_other, Waking}
 use Rattle.actor_turn.specs.Side.{edge_of}
@@ -156,3 +157,16 @@ pub waking_to : (part : Bool) (own : List ℕ) (others : SideGear) (from : ℕ) 
 waking_to part own others from old start at to now next apart a b was same =
     let e : at + (to - at) ≡ to = omega (arith, a) in
     subst (λ k. Waking part own others from old start k now next) e (waking_skips part own others from old start at (to - at) now next apart (omega (arith, e, b)) was (λ k c d. same k c (omega (arith, d, e))))
+
+-- a port that is settled again stays as it was seen
+pub settled_still : (v : RowsView) (q : ℕ) → q < length v.ports → v.seen ≡ map face_of v.ports → settled_at v q ≡ v
+settled_still v q b seen =
+    let same : face_of (port_at v.ports q) ≡ face_at v.seen q = sym (ap (λ l. face_at l q) seen ∙ face-map v.ports q b) in
+    ap (λ f. let x : RowsView = record v { seen = set v.seen q f } in x) same
+    ∙ ap (λ l. let x : RowsView = record v { seen = l } in x) (set-get_or v.seen q no_face)
+
+-- ports that all show what was seen of them wake nobody
+pub waking_still : (part : Bool) (own : List ℕ) (others : SideGear) (from : ℕ) (v : RowsView) (start : List (Option Time)) → AllApart own → ((q : ℕ) → Has own q → q < length v.ports) → v.seen ≡ map face_of v.ports → Waking part own others from v start (length own) v start
+waking_still part own others from v start apart within seen =
+    waking_to part own others from v start 0 (length own) v start apart (omega arith) (omega arith) (waking_none part own others from v start)
+    (λ k a b. ap (λ l. face_at l (get_or own k 0)) seen ∙ face-map v.ports (get_or own k 0) (within (get_or own k 0) (k, b, refl)))

@@ -1,5 +1,5 @@
 //! One actor steps where it stands.
-ghost use Rattle.std.specs.Prelude.{◌≡◌, ℕ, ◌<◌, length};
+ghost use Rattle.std.specs.Prelude.{◌≡◌, ℕ, ◌<◌, length, false};
 ghost use Rattle.tick_law.specs.Wires.{own_of};
 ghost use Rattle.actor_turn.specs.Act.{CanAct, HasActed, links_acting, parts_acting};
 
@@ -55,6 +55,7 @@ impl SideGear {
         ensures acted { HasActed P.machine self.now turn.now.no turn.now.t
             (parts_acting world.old recs.old steps.old)
             (parts_acting world.new recs.new steps.new) result }
+        ensures still { result ≡ false → world.new.rows.ports ≡ world.old.rows.ports }
         ensures hand { hand.new ≡ hand.old }
         ensures links { world.new.links ≡ world.old.links }
     {
@@ -64,6 +65,7 @@ impl SideGear {
             return false;
         };
         recs.begin(Time(turn.t), ActorNo(self.first + turn.no));
+        part.known();
         let own = self.wiring.own(turn.no);
         world.rows.tick_part(own, hand, part, cycle, recs, steps)
     }

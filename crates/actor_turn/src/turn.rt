@@ -5,7 +5,7 @@ ghost use Rattle.actor_turn.specs.Turn.{CanTurn, HasTurned, GearStays, hand_at, 
 
 use crate::gear::RowGear;
 use crate::side::TurnAt;
-use crate::wake::{wake_links, wake_parts};
+use crate::wake::{pass_over, wake_links, wake_parts};
 use port_rows::World;
 use sim_base::Steps;
 use std::sync::ledger::Ledger;
@@ -78,6 +78,11 @@ pub fn part_turn<P: Actor + Drop, N: Drop, L: Ledger, M: Ledger>(
     gear.parts
         .note_next(part, &turn, flag, &mut gear.next, looks);
     let own = gear.parts.wiring.own(no);
+    if !flag {
+        // Without progress no port was changed.
+        pass_over(&mut world.rows, own);
+        return flag;
+    }
     wake_links(&mut world.rows, own, &gear.links, t, &mut gear.next, looks);
     flag
 }

@@ -1,5 +1,5 @@
 //! Owners of ports on the other side are woken by what their ports show.
-ghost use Rattle.std.specs.Prelude.{◌≡◌, ℕ, ◌<◌, ◌≤◌, length, slice_set, true, false};
+ghost use Rattle.std.specs.Prelude.{◌≡◌, ℕ, ◌<◌, ◌≤◌, length, map, slice_set, true, false};
 ghost use Rattle.sim_base.specs.declared.time.TheConstants.{LATEST_TICK};
 ghost use Rattle.tick_law.specs.Wires.{own_of, Has, AllApart};
 ghost use Rattle.tick_law.specs.Pass.{port_at};
@@ -100,5 +100,16 @@ pub fn wake_links<L: Ledger>(
     for q in own {
         let changed = note_change(rows, *q, SideOf::Links);
         wake_where(changed, *q, links, from, next, looks);
+    }
+}
+
+/// These ports show what was seen of them, so that they wake nobody. They are touched no more.
+pub fn pass_over(rows: &mut PortRows, own: &[u32])
+    requires within { (q : ℕ) → Has own.now q → q < length rows.old.ports }
+    requires seen { rows.old.seen ≡ map face_of rows.old.ports }
+    ensures { rows.new ≡ rows.old }
+{
+    for q in own {
+        rows.settle_at(*q);
     }
 }

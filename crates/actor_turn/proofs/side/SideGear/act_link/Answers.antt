@@ -1,4 +1,4 @@
-use Rattle.std.proofs.Common.{length, ap, sym, ◌∙◌, arith}
+use Rattle.std.proofs.Common.{length, ap, sym, ◌∙◌}
 use Rattle.tick_law.specs.Wires.{own_of}
 use Rattle.actor_turn.specs.Act.{links_acting}
 use Rattle.actor_turn.proofs.ActLaws.{read_at, acted_wait, acted_edge}
