@@ -9,7 +9,7 @@ ghost use Rattle.serial_loop.specs.Pass.{CanPass, HasPassed, GearStays};
 
 use crate::table::NextTable;
 use actor_turn::next::either;
-use actor_turn::side::SideGear;
+use actor_turn::side::{SideGear, TurnAt};
 use port_rows::World;
 use run_gear::Gear;
 use sim_base::Steps;
@@ -58,11 +58,13 @@ pub fn pass_parts<P: Actor + Drop, N: Drop, L: Ledger>(
     let count = world.parts.len() as u32;
     let mut stirred = false;
     for no in 0..count {
+        let beat = gear.parts.beat.near(t, world.parts[no as usize].period());
+        let turn = TurnAt { no, t, beat };
         let ports = gear.parts.wiring.own(no).len();
         let hand = &mut gear.hands[ports];
         let flag = gear
             .parts
-            .act_part(world, hand, no, t, &mut gear.recs, steps);
+            .act_part(world, hand, &turn, &mut gear.recs, steps);
         note_next(&gear.parts, &world.parts, next, no, t, flag);
         stirred = either(stirred, flag);
     }
@@ -90,7 +92,9 @@ pub fn pass_links<P: Drop, N: Actor + Drop, L: Ledger>(
     let count = world.links.len() as u32;
     let mut stirred = false;
     for no in 0..count {
-        let flag = gear.links.act_link(world, no, t, &mut gear.recs, steps);
+        let beat = gear.links.beat.near(t, world.links[no as usize].period());
+        let turn = TurnAt { no, t, beat };
+        let flag = gear.links.act_link(world, &turn, &mut gear.recs, steps);
         note_next(&gear.links, &world.links, next, no, t, flag);
         stirred = either(stirred, flag);
     }

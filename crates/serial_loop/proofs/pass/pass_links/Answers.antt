@@ -19,6 +19,10 @@ loop-no-init g c = record {
   stays = stays_none c.args.gear.now;
 }
 
+pub index-requires : goal.index-requires
+index-requires g c =
+    omega (arith, c.loop-no-test.true, states_still g.N.Actor.machine c.args.gear.now.links c.args.t c.loop-no.no (links_acting c.args.world.now c.args.gear.now.recs c.args.steps.now) (links_acting c.loop-no.world c.loop-no.gear.recs c.loop-no.steps) c.args.next.now c.loop-no.next c.loop-no.stirred c.loop-no.invariant.passed)
+
 pub act_link-flag-requires-clause-wires : goal.act_link-flag-requires-clause-wires
 act_link-flag-requires-clause-wires g c =
     let inv = c.loop-no.invariant in

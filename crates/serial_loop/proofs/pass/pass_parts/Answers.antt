@@ -20,6 +20,10 @@ loop-no-init g c = record {
   stays = stays_none c.args.gear.now;
 }
 
+pub index-requires : goal.index-requires
+index-requires g c =
+    omega (arith, c.loop-no-test.true, states_still g.P.Actor.machine c.args.gear.now.parts c.args.t c.loop-no.no (parts_acting c.args.world.now c.args.gear.now.recs c.args.steps.now) (parts_acting c.loop-no.world c.loop-no.gear.recs c.loop-no.steps) c.args.next.now c.loop-no.next c.loop-no.stirred c.loop-no.invariant.passed)
+
 pub act_part-flag-requires-clause-can : goal.act_part-flag-requires-clause-can
 act_part-flag-requires-clause-can g c =
     let inv = c.loop-no.invariant in
