@@ -9,6 +9,7 @@ ghost use Rattle.hub_floor.specs.Floor.{hub_state, PartsOf, LinksOf};
 
 use crate::floor::Floor;
 use actor_turn::next::either;
+use actor_turn::side::TurnAt;
 use actor_turn::wake::{wake_links, wake_parts};
 use away_rows::{Body, Marks, link_returns, part_returns};
 use sim_base::Steps;
@@ -37,9 +38,11 @@ pub fn part_back<P: Actor + Drop, N: Actor + Drop, C: Charter<P, N>, M: Ledger>(
         (hub_state floor.old) no }
 {
     let t = floor.at;
+    let beat = floor.part_side.beat.near(t, body.actor.period());
+    let turn = TurnAt { no, t, beat };
     floor
         .part_side
-        .note_next(&body.actor, no, t, flag, &mut floor.next, looks);
+        .note_next(&body.actor, &turn, flag, &mut floor.next, looks);
     let own = floor.part_side.wiring.own(no);
     part_returns(&mut floor.parts, &mut floor.rows, own, no, body);
     wake_links(
@@ -76,9 +79,11 @@ pub fn link_back<P: Actor + Drop, N: Actor + Drop, C: Charter<P, N>, M: Ledger>(
         (hub_state floor.old) no }
 {
     let t = floor.at;
+    let beat = floor.link_side.beat.near(t, body.actor.period());
+    let turn = TurnAt { no, t, beat };
     floor
         .link_side
-        .note_next(&body.actor, no, t, flag, &mut floor.next, looks);
+        .note_next(&body.actor, &turn, flag, &mut floor.next, looks);
     link_returns(&mut floor.links, &mut floor.rows, no, body);
     wake_parts(
         &mut floor.rows,

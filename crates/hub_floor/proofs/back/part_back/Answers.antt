@@ -13,6 +13,9 @@ use Rattle.hub_floor.proofs.FloorGives.{part_known, links_wake}
 use Rattle.hub_floor.proofs.BackLaws.{part_out_is, part_small, part_seats, part_rows, own_ports, part_comes_back}
 use Rattle.hub_floor.proofs.back.part_back.Goals as goal
 
+pub near-beat-requires-clause-early : goal.near-beat-requires-clause-early
+near-beat-requires-clause-early g c = let s = part_small (system_from g.P.Actor.machine g.N.Actor.machine g.C.Charter.plan g.C.Charter.start) g.P.Actor.valid g.N.Actor.valid g.C.Charter.plan.until c.args.floor.now c.requires.floor in omega (arith, s)
+
 pub note_next-requires-clause-there : goal.note_next-requires-clause-there
 note_next-requires-clause-there g c =
     let o = c.requires.floor.of.order in
@@ -91,10 +94,10 @@ pub returns-clause-floor : goal.returns-clause-floor
 returns-clause-floor g c =
     let r = system_from g.P.Actor.machine g.N.Actor.machine g.C.Charter.plan g.C.Charter.start in
     (part_comes_back r g.P.Actor.valid g.N.Actor.valid g.C.Charter.plan.until c.args.no c.args.floor.now c.own-own.result.now c.args.body.value c.args.flag c.part_returns.new.seats c.part_returns.new.rows c.wake_links.new.rows c.note_next.new.next c.wake_links.new.next c.finish.new.marks c.either-floor.result
-    c.requires.floor c.requires.out (c.own-own.ensures ∙ ap (λ w. own_of w c.args.no) c.requires.floor.of.part_wires_are) c.requires.done (c.note_next.ensures ∙ ap (λ (x : Body _). set c.args.floor.now.next (c.args.floor.now.part_side.first + c.args.no) (timed (left_by g.P.Actor.machine c.args.floor.now.at c.args.flag (number_of (time_of c.args.floor.now.next (c.args.floor.now.part_side.first + c.args.no))) x.actor))) c.deref.ensures) c.part_returns.ensures.rows c.part_returns.ensures.seats c.wake_links.ensures c.finish.ensures c.either-floor.ensures).floor
+    c.requires.floor c.requires.out (c.own-own.ensures ∙ ap (λ w. own_of w c.args.no) c.requires.floor.of.part_wires_are) c.requires.done (c.note_next.ensures ∙ ap (λ (x : Body _). set c.args.floor.now.next (c.args.floor.now.part_side.first + c.args.no) (timed (left_by g.P.Actor.machine c.args.floor.now.at c.args.flag (number_of (time_of c.args.floor.now.next (c.args.floor.now.part_side.first + c.args.no))) x.actor))) c.deref-2.ensures) c.part_returns.ensures.rows c.part_returns.ensures.seats c.wake_links.ensures c.finish.ensures c.either-floor.ensures).floor
 
 pub returns-clause-event : goal.returns-clause-event
 returns-clause-event g c =
     let r = system_from g.P.Actor.machine g.N.Actor.machine g.C.Charter.plan g.C.Charter.start in
     (part_comes_back r g.P.Actor.valid g.N.Actor.valid g.C.Charter.plan.until c.args.no c.args.floor.now c.own-own.result.now c.args.body.value c.args.flag c.part_returns.new.seats c.part_returns.new.rows c.wake_links.new.rows c.note_next.new.next c.wake_links.new.next c.finish.new.marks c.either-floor.result
-    c.requires.floor c.requires.out (c.own-own.ensures ∙ ap (λ w. own_of w c.args.no) c.requires.floor.of.part_wires_are) c.requires.done (c.note_next.ensures ∙ ap (λ (x : Body _). set c.args.floor.now.next (c.args.floor.now.part_side.first + c.args.no) (timed (left_by g.P.Actor.machine c.args.floor.now.at c.args.flag (number_of (time_of c.args.floor.now.next (c.args.floor.now.part_side.first + c.args.no))) x.actor))) c.deref.ensures) c.part_returns.ensures.rows c.part_returns.ensures.seats c.wake_links.ensures c.finish.ensures c.either-floor.ensures).event_is
+    c.requires.floor c.requires.out (c.own-own.ensures ∙ ap (λ w. own_of w c.args.no) c.requires.floor.of.part_wires_are) c.requires.done (c.note_next.ensures ∙ ap (λ (x : Body _). set c.args.floor.now.next (c.args.floor.now.part_side.first + c.args.no) (timed (left_by g.P.Actor.machine c.args.floor.now.at c.args.flag (number_of (time_of c.args.floor.now.next (c.args.floor.now.part_side.first + c.args.no))) x.actor))) c.deref-2.ensures) c.part_returns.ensures.rows c.part_returns.ensures.seats c.wake_links.ensures c.finish.ensures c.either-floor.ensures).event_is
