@@ -232,6 +232,3 @@ impl Actor for Cache {
 
     ghost period_within = { λ s v. (v.period_some, v.period_short) };
 }
-
-#[cfg(test)]
-mod tests;

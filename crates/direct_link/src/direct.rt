@@ -127,6 +127,3 @@ impl Actor for Direct {
 
     ghost period_within = { λ s v. (v.0, v.1) };
 }
-
-#[cfg(test)]
-mod tests;

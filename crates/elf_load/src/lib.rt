@@ -12,8 +12,6 @@ mod rule;
 mod segment;
 mod segments;
 mod table;
-#[cfg(test)]
-mod tests;
 
 pub use check::LONGEST_FILE;
 pub use fault::ElfFault;

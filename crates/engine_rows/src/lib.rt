@@ -3,8 +3,6 @@
 
 mod counted;
 mod pair;
-#[cfg(test)]
-mod tests;
 
 pub use counted::{Counted, counted_plan};
 pub use pair::pair_plan;

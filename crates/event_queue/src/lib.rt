@@ -16,6 +16,3 @@ mod two_times;
 pub use key::Key;
 pub use key_row::KeyRow;
 pub use next_times::NextTimes;
-
-#[cfg(test)]
-mod tests;

@@ -3,8 +3,6 @@
 
 mod link_kind;
 mod part;
-#[cfg(test)]
-mod tests;
 
 pub use link_kind::LinkKind;
 pub use part::Part;

@@ -5,8 +5,6 @@ mod hands;
 mod opening;
 mod rows;
 mod side;
-#[cfg(test)]
-mod tests;
 mod world;
 
 pub use hands::open_hands;

@@ -15,8 +15,6 @@ mod response;
 mod routes;
 mod span;
 mod status;
-#[cfg(test)]
-mod tests;
 mod text;
 mod wait;
 

@@ -203,6 +203,3 @@ impl Actor for Core {
 
     ghost period_within = { λ s v. (v.period_some, v.period_short) };
 }
-
-#[cfg(test)]
-mod tests;

@@ -36,6 +36,3 @@ pub fn decode(word: u32) -> Result<Inst, Illegal>
         imm: format.immediate(word),
     })
 }
-
-#[cfg(test)]
-mod tests;

@@ -145,6 +145,3 @@ fn shifted_right_signed(a: u32, n: u32) -> u32
 {
     (a.cast_signed() >> (n % 32)).cast_unsigned()
 }
-
-#[cfg(test)]
-mod tests;

@@ -36,8 +36,6 @@ mod program_text;
 mod reader;
 mod section;
 mod table_reader;
-#[cfg(test)]
-mod tests;
 mod values;
 mod version;
 mod word;

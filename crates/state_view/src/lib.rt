@@ -6,8 +6,6 @@ mod memory_rows;
 mod regs_line;
 mod run_end;
 mod task_lines;
-#[cfg(test)]
-mod tests;
 mod text;
 mod world_report;
 

@@ -4,8 +4,6 @@
 mod names;
 mod parts;
 mod storm;
-#[cfg(test)]
-mod tests;
 
 pub use parts::MOST_AGENTS;
 pub use storm::storm_plan;

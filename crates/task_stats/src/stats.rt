@@ -84,6 +84,3 @@ impl Stats {
         }
     }
 }
-
-#[cfg(test)]
-mod tests;

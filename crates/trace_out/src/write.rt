@@ -86,6 +86,3 @@ pub fn write_records<K: Sink>(
     }
     Ok(())
 }
-
-#[cfg(test)]
-mod tests;

@@ -208,6 +208,3 @@ impl Actor for Relay {
 
     ghost period_within = { λ s v. (v.0, v.1) };
 }
-
-#[cfg(test)]
-mod tests;

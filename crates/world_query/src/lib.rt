@@ -4,8 +4,6 @@
 mod directory;
 mod name_table;
 mod query;
-#[cfg(test)]
-mod tests;
 mod viewer;
 
 pub use directory::Directory;

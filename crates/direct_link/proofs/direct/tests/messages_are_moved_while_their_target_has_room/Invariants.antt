@@ -1,4 +1,0 @@
-use Rattle.direct_link.proofs.direct.tests.messages_are_moved_while_their_target_has_room.Given as goal
-
-abbrev pub ghosts-step : goal.ghosts-step
-ghosts-step g a = record { name = a.blank.name; parts = a.blank.parts }

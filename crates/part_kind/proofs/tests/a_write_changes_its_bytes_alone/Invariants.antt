@@ -1,4 +1,0 @@
-use Rattle.part_kind.proofs.tests.a_write_changes_its_bytes_alone.Given as goal
-
-abbrev pub ghosts-answer_to : goal.ghosts-answer_to
-ghosts-answer_to g a = record { name = a.blank.name; parts = a.blank.parts }

@@ -1,5 +1,0 @@
-use Rattle.std.proofs.Common.{◌≡◌, length}
-use Rattle.part_kind.proofs.tests.run_both.Given as goal
-
-abbrev pub invariant-loop-time : goal.invariant-loop-time
-invariant-loop-time g l = (length l.pair.io.ports ≡ 1) × (length l.pair.top.ports ≡ 1)

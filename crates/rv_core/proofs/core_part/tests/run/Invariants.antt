@@ -1,4 +1,0 @@
-use Rattle.rv_core.proofs.core_part.tests.run.Given as goal
-
-abbrev pub ghosts-run_counted : goal.ghosts-run_counted
-ghosts-run_counted a = record { name = a.blank.name; parts = a.blank.parts }

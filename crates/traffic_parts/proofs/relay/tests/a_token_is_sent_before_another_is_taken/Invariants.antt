@@ -1,4 +1,0 @@
-use Rattle.traffic_parts.proofs.relay.tests.a_token_is_sent_before_another_is_taken.Given as goal
-
-abbrev pub ghosts-step : goal.ghosts-step
-ghosts-step g a = record { name = a.blank.name; parts = a.blank.parts }
