@@ -17,7 +17,26 @@ use std::sync::ledger::Ledger;
 use tick_law::{Charter, Plan};
 use world_query::{Query, Viewer};
 
-/// Answers a query about the world of an engine of a plan.
+/// An engine of a plan that has come to the boundary behind the plan's greatest time.
+fn engine_at_end<C: Charter<Part, LinkKind>, L: Ledger>(
+    alloc: Global,
+    plan: Plan<Part, LinkKind>,
+    steps: &mut Steps<L>,
+) -> Result<Engine<Part, LinkKind, C>, OutOfMemory>
+    requires plan { plan ≡ C.plan }
+    requires start { C.start ≡ opening C.plan }
+
+    ensures boundary { IfOk result (λ engine. engine.at ≡ C.plan.until + 1) }
+    ensures steps { OnOk result (steps.new ≡ steps.old
+        + awake_below (system_from kinds link_kinds C.plan C.start) (C.plan.until + 1)) }
+{
+    let until = plan.until;
+    let mut engine = Engine::<Part, LinkKind, C>::open(alloc, plan)?;
+    engine.advance_to(until, steps);
+    Ok(engine)
+}
+
+/// Answers a query about the world of an engine of a plan behind the plan's greatest time.
 fn answer_by<C: Charter<Part, LinkKind>>(
     alloc: Global,
     engine: &Engine<Part, LinkKind, C>,
@@ -28,10 +47,11 @@ fn answer_by<C: Charter<Part, LinkKind>>(
     requires viewer { viewer.now ≡ legend_of C.plan }
     requires query { IsQueryOf viewer.now query.now }
     requires start { IsWorldOf (legend_of C.plan) C.start.world }
-    requires boundary { at.0 ≡ engine.now.at }
+    requires boundary { engine.now.at ≡ C.plan.until + 1 }
+    requires at { at.0 ≡ C.plan.until + 1 }
 
     ensures { IfOk result (λ body. body ≡ body_of viewer.now query.now
-        (world_at (system_from kinds link_kinds C.plan C.start) at.0) at.0) }
+        (world_at (system_from kinds link_kinds C.plan C.start) (C.plan.until + 1)) (C.plan.until + 1)) }
 {
     engine.known();
     viewer.view(alloc, query, engine.world(), at)
@@ -55,10 +75,9 @@ fn show_by<C: Charter<Part, LinkKind>, L: Ledger>(
     ensures steps { OnOk result (steps.new ≡ steps.old
         + awake_below (system_from kinds link_kinds C.plan C.start) (C.plan.until + 1)) }
 {
-    let until = plan.until;
-    let mut engine = Engine::<Part, LinkKind, C>::open(alloc, plan)?;
-    engine.advance_to(until, steps);
-    answer_by(alloc, &engine, viewer, query, Time(until.0 + 1))
+    let at = Time(plan.until.0 + 1);
+    let engine = engine_at_end::<C, L>(alloc, plan, steps)?;
+    answer_by(alloc, &engine, viewer, query, at)
 }
 
 /// Runs a plan to its greatest time by the sleeping engine, and answers a query about its world at the boundary behind it. One step
