@@ -1,11 +1,17 @@
+ghost use Rattle.std.specs.Prelude.{◌+◌, ◌*◌};
+ghost use Rattle.cache_comp.specs.Cache.{cache};
 ghost use Rattle.std.specs.Prelude.{◌≡◌, ◌<◌, ◌≤◌, [], ◌∷◌, length, IfOk, All, AllPairs};
 ghost use Rattle.addr_map.specs.Range.{IsRange, Apart};
 
+use addr_map::{Range, Ranges, Targets};
 use cache_comp::{Cache, CacheText};
-use addr_map::{Range, Targets};
-use port_msg::{DATA_BYTES, MsgId, MsgKind, Port};
+use port_msg::{DATA_BYTES, Msg, MsgId, MsgKind, Port, RecList};
+use port_row::Ports;
+use sim_base::{ActorNo, OutOfMemory, PartNo, PortList, PortNo, Steps};
+use std::alloc::Global;
 use std::marker::Brand;
-use std::sync::ledger::Blank;
+use std::sync::ledger::{Blank, Ledger};
+use tick_law::Actor;
 
 /// The port of the memory, which has the addresses 0 to 511.
 const MEMORY: PortNo = PortNo(2);

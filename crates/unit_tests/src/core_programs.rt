@@ -1,11 +1,16 @@
+ghost use Rattle.rv_core.specs.Core.{core};
 ghost use Rattle.std.specs.Prelude.{◌≡◌, ◌<◌, ◌≤◌, [], ◌∷◌, length, IfOk, All, AllPairs};
 ghost use Rattle.addr_map.specs.Range.{IsRange, Apart};
 
+use addr_map::{Range, Ranges, Targets};
+use port_msg::{Cause, DATA_BYTES, Msg, MsgKind, Port, RecList, What};
+use port_row::Ports;
 use rv_core::{Core, CoreText};
-use addr_map::{Range, Targets};
-use port_msg::{DATA_BYTES, Msg, MsgKind, Port, What};
+use sim_base::{ActorNo, OutOfMemory, PortList, PortNo, Steps};
+use std::alloc::Global;
 use std::marker::Brand;
-use std::sync::ledger::Blank;
+use std::sync::ledger::{Blank, Ledger};
+use tick_law::Actor;
 
 /// The port of the memory, which has the addresses 0 to 511.
 const MEMORY: PortNo = PortNo(2);

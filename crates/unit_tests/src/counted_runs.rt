@@ -4,9 +4,9 @@ ghost use Rattle.part_kind.specs.Part.{part};
 ghost use Rattle.part_kind.specs.LinkKind.{link};
 ghost use Rattle.tick_law.specs.PlanView.{opening};
 
-use engine_rows::{Counted, counted_plan, pair_plan};
 use addr_map::{Range, Ranges, Targets};
 use direct_link::{Direct, DirectText};
+use engine_rows::{Counted, counted_plan, pair_plan};
 use mem_ctrl::{Memory, MemoryText};
 use part_kind::{LinkKind, Part};
 use phase_engine::{Engine, RunFault, run_plan};

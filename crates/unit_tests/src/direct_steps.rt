@@ -1,10 +1,13 @@
 ghost use Rattle.std.specs.Prelude.{◌≡◌, ◌<◌, IfOk, length};
 
 use direct_link::{Direct, DirectText};
-use port_msg::{DATA_BYTES, Msg, MsgId, MsgKind, Port};
-use sim_base::{PartNo, PortNo};
+use port_msg::{DATA_BYTES, Msg, MsgId, MsgKind, Port, RecList};
+use port_row::Ports;
+use sim_base::{ActorNo, OutOfMemory, PartNo, PortList, PortNo, Steps};
+use std::alloc::Global;
 use std::marker::Brand;
-use std::sync::ledger::Blank;
+use std::sync::ledger::{Blank, Ledger};
+use tick_law::Actor;
 
 /// What a step leaves: the room in each port's incoming list, the count of moves and the pointer.
 #[derive(Clone, Copy, Debug, PartialEq, Eq)]

@@ -1,7 +1,7 @@
 mod made;
 
-use elf_load::{ElfFault, ElfRule, LONGEST_FILE, Segment, Segments, load};
 use byteorder::{ByteOrder, LittleEndian};
+use elf_load::{ElfFault, ElfRule, LONGEST_FILE, Segment, Segments, load};
 use made::MADE;
 use std::alloc::{AllocError, Global};
 use std::test::Fail;

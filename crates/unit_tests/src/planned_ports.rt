@@ -1,6 +1,7 @@
 use run_gear::open_ports;
 use sim_base::{LinkNo, Name, PartNo};
 use std::test::Fail;
+use tick_law::PortPlan;
 
 #[test]
 fn ports_have_the_capacities_of_their_plan(rt: HostRuntime) -> Result<(), Fail> {

@@ -2,9 +2,7 @@ use port_msg::{Cause, RecList, Record, What};
 use sim_base::{ActorNo, OutOfMemory, Time};
 
 #[test]
-fn records_have_the_time_and_actor_that_were_set_last(
-    rt: HostRuntime,
-) -> Result<(), OutOfMemory> {
+fn records_have_the_time_and_actor_that_were_set_last(rt: HostRuntime) -> Result<(), OutOfMemory> {
     let mut recs = RecList::open(rt.alloc(), 2)?;
     recs.begin(Time(6), ActorNo(1));
     recs.push(What::Out(104));

@@ -1,10 +1,17 @@
+ghost use Rattle.std.specs.Prelude.{◌-◌};
+ghost use Rattle.tick_law.specs.OnePort.{lone};
+ghost use Rattle.traffic_parts.specs.Relay.{token, relay};
 ghost use Rattle.std.specs.Prelude.{◌≡◌, ◌<◌, ◌≤◌, length, IfOk};
 ghost use Rattle.std.specs.Option.{ForSome};
 
-use traffic_parts::{MOST_HOPS, Relay, RelayText};
-use port_msg::Port;
+use port_msg::{DATA_BYTES, Msg, MsgId, MsgKind, Port, RecList, What};
+use port_row::Ports;
+use sim_base::{ActorNo, OutOfMemory, PartNo, PortNo, Steps};
+use std::alloc::Global;
 use std::marker::Brand;
-use std::sync::ledger::Blank;
+use std::sync::ledger::{Blank, Ledger};
+use tick_law::Actor;
+use traffic_parts::{MOST_HOPS, Relay, RelayText};
 
 /// What a step leaves: the hops that it sent and that it holds, and both counts.
 #[derive(Clone, Copy, Debug, PartialEq, Eq)]

@@ -1,9 +1,10 @@
+ghost use Rattle.std.specs.Prelude.{true};
 ghost use Rattle.std.specs.Prelude.{◌≡◌, ◌+◌, ◌<◌, ◌↔◌, length, IfOk, IsTrue, All};
 ghost use Rattle.trace_out.specs.Names.{actors_of};
 
 use port_msg::{Cause, Msg, MsgId, MsgKind, RecList, What};
 use sim_base::{ActorNo, Name, OutOfMemory, PartNo, PortNo, Time};
-use sim_io::MemSink;
+use sim_io::{MemSink, SinkFault};
 use std::alloc::Global;
 use std::test::Fail;
 use trace_out::{Names, PortName, write_records};
