@@ -3,6 +3,8 @@
 
 mod first_time;
 mod lone;
+#[cfg(test)]
+mod tests;
 
 pub use first_time::lone_first_time;
 pub use lone::lone_plan;

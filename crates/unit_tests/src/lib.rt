@@ -31,8 +31,6 @@ mod kinds;
 #[cfg(test)]
 mod loads;
 #[cfg(test)]
-mod lone_ring;
-#[cfg(test)]
 mod mem_file_reads;
 #[cfg(test)]
 mod mem_sink_writes;

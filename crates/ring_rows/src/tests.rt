@@ -1,10 +1,10 @@
 ghost use Rattle.std.specs.Prelude.{◌≡◌, ◌<◌, ◌≤◌};
 ghost use Rattle.sim_base.specs.declared.time.TheConstants.{LATEST_TIME};
 
+use crate::{lone_first_time, lone_plan};
 use direct_link::Direct;
 use part_kind::{LinkKind, Part};
 use port_rows::World;
-use ring_rows::{lone_first_time, lone_plan};
 use run_gear::{Ending, Kept, RunFault};
 use serial_loop::run_serial;
 use sim_base::{LinkNo, Name, PartNo, Steps, Time};
