@@ -7,3 +7,5 @@ pub mod TimeLines
 pub mod WrittenLaws
 pub mod TurnLaws
 pub mod WordLaws
+pub mod AskLaws
+pub mod SwapLaws

@@ -74,10 +74,18 @@ pub record OpensFor (parts until : ℕ) (old : HubState) (name : TaskName) (new 
   pub may : MayOpen until old time
   pub goes : Goes parts (opened old time) name new
 
+-- why nobody goes out now, and nothing changes
+abbrev pub Waits : ℕ → HubState → HubState → Why → Type 0
+Waits until old new (Running n) = Runs old n × (new ≡ old)
+Waits until old new Paused = CouldOpen until old × (old.paused ≡ true) × (new ≡ old)
+Waits until old new (Held w) = CouldOpen until old × (old.paused ≡ false) × (old.wants ≡ w) × (0 < w) × (new ≡ old)
+
+-- it was over, or it ends
+abbrev pub Ends : ℕ → HubState → HubState → Type 0
+Ends until old new = ((old.stage ≡ Over) × (new ≡ old)) ⊎ (MayEnd until old × (new ≡ ended until old))
+
 -- what a claim answers, and what it changes
 abbrev pub Claims : {P N C : Type 0} → ℕ → ℕ → HubState → HubState → Claim P N C → Type 0
 Claims parts until old new (Got name) = Goes parts old name new ⊎ OpensFor parts until old name new
-Claims parts until old new (Wait (Running n)) = Runs old n × (new ≡ old)
-Claims parts until old new (Wait Paused) = CouldOpen until old × (old.paused ≡ true) × (new ≡ old)
-Claims parts until old new (Wait (Held w)) = CouldOpen until old × (old.paused ≡ false) × (old.wants ≡ w) × (0 < w) × (new ≡ old)
-Claims parts until old new IsOver = ((old.stage ≡ Over) × (new ≡ old)) ⊎ (MayEnd until old × (new ≡ ended until old))
+Claims parts until old new (Wait why) = Waits until old new why
+Claims parts until old new IsOver = Ends until old new

@@ -5,4 +5,7 @@ pub mod Written
 pub mod Stands
 pub mod Claims
 pub mod Finishes
+pub mod Asks
+pub mod Batch
+pub mod Swaps
 pub mod Hub

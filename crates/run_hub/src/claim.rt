@@ -111,7 +111,7 @@ fn claim_link<P: Actor + Drop, N: Actor + Drop, C: Charter<P, N>>(
 }
 
 /// In the pass that is open, the one of least number that waits goes out.
-fn claim_opened<P: Actor + Drop, N: Actor + Drop, C: Charter<P, N>>(
+pub(crate) fn claim_opened<P: Actor + Drop, N: Actor + Drop, C: Charter<P, N>>(
     floor: &mut Floor<P, N>,
 ) -> Claim<P, N, C>
     requires pass { IsPass (system_from P.machine N.machine C.plan C.start)

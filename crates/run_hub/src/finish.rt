@@ -191,7 +191,43 @@ fn take_back<
     }
 }
 
-/// Takes a step back, where it is out here. Looks at the next times are counted by a counter that is made of `blank`.
+/// Takes a step back, where it is out here.
+pub(crate) fn finish_from<
+    P: Actor + Drop,
+    N: Actor + Drop,
+    C: Charter<P, N> + Opening,
+    K: Sink + Drop,
+    M: Ledger,
+>(
+    floor: &mut Floor<P, N>,
+    trace: &mut Trace<K>,
+    done: Done<P, N, C>,
+    looks: &mut Steps<M>,
+) -> Finish<P, N, C>
+    requires stands { Stands (system_from P.machine N.machine C.plan C.start)
+        P.valid N.valid C.plan.until floor.old }
+    requires written { IsWritten C.plan (system_from P.machine N.machine C.plan C.start)
+        C.all C.told C.faults floor.old.at floor.old.failed
+        (trace_view K.told K.faults trace.old) }
+
+    ensures stands { Stands (system_from P.machine N.machine C.plan C.start)
+        P.valid N.valid C.plan.until floor.new }
+    ensures written { IsWritten C.plan (system_from P.machine N.machine C.plan C.start)
+        C.all C.told C.faults floor.new.at floor.new.failed
+        (trace_view K.told K.faults trace.new) }
+    ensures finishes { Finishes (system_from P.machine N.machine C.plan C.start)
+        (length C.start.world.parts) (hub_state floor.old) (hub_state floor.new)
+        (trace_view K.told K.faults trace.old) (trace_view K.told K.faults trace.new) done result }
+{
+    if !is_out(floor, &done) {
+        let now = pass_of(floor.stage, floor.at);
+        return Finish::NotOut { done, now };
+    }
+    take_back::<P, N, C, K, M>(floor, trace, done, looks);
+    Finish::Taken
+}
+
+/// The same, where looks at the next times are counted by a counter that is made of `blank`.
 pub(crate) fn finish_with<
     P: Actor + Drop,
     N: Actor + Drop,
@@ -222,11 +258,6 @@ pub(crate) fn finish_with<
         (length C.start.world.parts) (hub_state floor.old) (hub_state floor.new)
         (trace_view K.told K.faults trace.old) (trace_view K.told K.faults trace.new) done result }
 {
-    if !is_out(floor, &done) {
-        let now = pass_of(floor.stage, floor.at);
-        return Finish::NotOut { done, now };
-    }
     let mut looks = Steps::<M>::open(blank);
-    take_back::<P, N, C, K, M>(floor, trace, done, &mut looks);
-    Finish::Taken
+    finish_from::<P, N, C, K, M>(floor, trace, done, &mut looks)
 }

@@ -1,21 +1,26 @@
-ghost use Rattle.std.specs.Prelude.{◌≡◌, ◌<◌, length, true, false};
+ghost use Rattle.std.specs.Prelude.{◌≡◌, ◌<◌, ◌≤◌, [], length, true, false};
 ghost use Rattle.sim_io.specs.Sink.{Rose};
 ghost use Rattle.tick_law.specs.PlanView.{system_from};
 ghost use Rattle.run_gear.specs.Written.{GotLines, GotSomeLines};
 ghost use Rattle.hub_laws.specs.Events.{is_over, paused_to, wanted, left_now};
+ghost use Rattle.run_hub.specs.Asks.{part_asked, edge_told};
 ghost use Rattle.run_hub.specs.Claims.{Claims};
 ghost use Rattle.run_hub.specs.Finishes.{Finishes};
+ghost use Rattle.run_hub.specs.Swaps.{Swaps};
 
+use crate::ask::ask_with;
+use crate::batch::Batch;
 use crate::claim::{Claim, claim_with};
 use crate::finish::{Finish, finish_with};
 use crate::home::Home;
 use crate::opening::Opening;
+use crate::swap::{MOST_WORKERS, Swapped, swap_with};
 use crate::task::Done;
 use crate::trace::Trace;
 use crate::words::set_words;
 use hub_floor::Floor;
 use hub_laws::Stage;
-use sim_base::Time;
+use sim_base::{PartNo, Time};
 use sim_io::Sink;
 use std::marker::{Brand, Model, PhantomData};
 use std::sync::ledger::Blank;
@@ -79,6 +84,27 @@ impl<P: Actor + Drop, N: Actor + Drop, V: Drop, K: Sink + Drop, C: Charter<P, N>
             self.old.trace self.new.trace done result }
     {
         finish_with::<P, N, C, K, Brand>(&mut self.floor, &mut self.trace, done, Blank::new(1))
+    }
+
+    /// Takes back the steps of a batch, in order, and drops those that are not out here. Then the share of one of so many workers goes
+    /// out into the batch: those of least number that wait, after the least time has begun where it is at a boundary. It takes no
+    /// memory.
+    pub fn swap(&mut self, batch: &mut Batch<P, N, C>, workers: u32) -> Swapped
+        requires worked { batch.old.tasks ≡ [] }
+        requires some { 1 ≤ workers }
+        requires few { workers ≤ MOST_WORKERS }
+        ensures { Swaps (system_from P.machine N.machine C.plan C.start)
+            (length C.start.world.parts) C.plan.until workers self.old.state self.new.state
+            self.old.trace self.new.trace batch.old batch.new result }
+    {
+        swap_with::<P, N, C, K, Brand>(
+            &mut self.floor,
+            &mut self.trace,
+            self.until,
+            batch,
+            workers,
+            Blank::new(1),
+        )
     }
 
     /// The boundary in picoseconds: all times below it are done. In a pass it is the time of the pass.
@@ -148,6 +174,22 @@ impl<P: Actor + Drop, N: Actor + Drop, V: Drop, K: Sink + Drop, C: Charter<P, N>
     {
         let (paused, wants) = (self.floor.paused, self.floor.wants);
         set_words::<P, N, C>(&mut self.floor, paused, wants, true);
+    }
+
+    /// Asks for a tick of a part, which then steps once at its first edge from the boundary on, or after the time whose pass is open,
+    /// also where it is not awake. The answer is that edge in picoseconds, or None where it is above the greatest time or the run is
+    /// over. The ask is counted either way.
+    #[tactic(auto, using(crate::proofs::WrittenLaws::written_on))]
+    pub fn ask_tick(&mut self, part: PartNo) -> Option<Time>
+        requires { part.0 < length C.start.world.parts }
+        ensures state { self.new.state
+            ≡ part_asked (system_from P.machine N.machine C.plan C.start)
+            C.plan.until self.old.state part.0 }
+        ensures edge { result ≡ edge_told (system_from P.machine N.machine C.plan C.start)
+            C.plan.until self.old.state part.0 }
+        ensures trace { self.new.trace ≡ self.old.trace }
+    {
+        ask_with::<P, N, C, Brand>(&mut self.floor, self.until, part.0, Blank::new(1))
     }
 
     /// Whether lingering is over.

@@ -2,6 +2,8 @@
 //! takes them back.
 #![tactic(auto)]
 
+mod ask;
+mod batch;
 mod claim;
 mod count;
 mod finish;
@@ -9,11 +11,13 @@ mod home;
 mod hub;
 mod lines;
 mod opening;
+mod swap;
 mod task;
 mod trace;
 mod turn;
 mod words;
 
+pub use batch::{BATCH_ROOM, Batch};
 pub use claim::{Claim, Why};
 pub use count::count_time;
 pub use finish::Finish;
@@ -21,6 +25,7 @@ pub use home::Home;
 pub use hub::Hub;
 pub use lines::write_time;
 pub use opening::Opening;
+pub use swap::{MOST_WORKERS, Swap, Swapped};
 pub use task::{Away, Done, Task, TaskName, work};
 pub use trace::Trace;
 pub use turn::{after_link, after_part};
