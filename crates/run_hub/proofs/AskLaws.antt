@@ -16,7 +16,7 @@ use Rattle.hub_laws.specs.Events.{counted, asked_edge, ask_noted, tick_asked}
 use Rattle.hub_laws.specs.declared.stage.Stage.{Stage}
 use Rattle.hub_laws.specs.declared.stage.Stage.TheVariants.{Boundary, Primary, Secondary, Over}
 use Rattle.hub_floor.specs.declared.floor.Floor.{Floor}
-use Rattle.hub_floor.specs.Floor.{hub_state, IsOf, AreAsked, RestsOf, PartsOf, LinksOf}
+use Rattle.hub_floor.specs.Floor.{hub_state, IsOf, AreAsked, RestsOf}
 use Rattle.hub_floor.proofs.FloorGives.{of_same}
 use Rattle.run_hub.specs.Stands.{StandsAt, Stands}
 use Rattle.run_hub.specs.Asks.{first_asked, is_noted_at, told_where}

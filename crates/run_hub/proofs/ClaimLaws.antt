@@ -1,6 +1,6 @@
 -- Claims: who goes out, and what stands afterwards.
 use Rattle.std.proofs.Common.{◌≡◌, ℕ, zero, suc, ◌+◌, ◌-◌, ◌<◌, ◌≤◌, ◌^◌, ◌⊎◌, inl, inr, List, length, sym, ◌∙◌, ap, subst, arith, refl, add-one}
-use Rattle.std.specs.Prelude.{Option, Some, Bool, true, false, ◌&&◌}
+use Rattle.std.specs.Prelude.{Bool, true, false, ◌&&◌}
 use Rattle.std.proofs.lemmas.List.{get_or-set_same}
 use Rattle.bit_set.specs.Bits.{is_in, NoneIn, IsNext}
 use Rattle.tick_law.specs.SerialLoop.{System, pick, records_below}
@@ -10,16 +10,15 @@ use Rattle.away_rows.specs.declared.marks.Marks.{Marks}
 use Rattle.away_rows.specs.Marks.{claimed}
 use Rattle.hub_laws.specs.HubState.{HubState}
 use Rattle.hub_laws.specs.declared.stage.Stage.{Stage}
-use Rattle.hub_laws.specs.declared.stage.Stage.TheVariants.{Boundary, Primary, Secondary, Over}
-use Rattle.hub_laws.specs.Events.{count_to, is_none, all_back, part_claimed, link_claimed, IsLeastTime, MayOpen, MayEnd, NoneBy, opened, ended}
+use Rattle.hub_laws.specs.Events.{count_to, is_none, all_back, part_claimed, link_claimed, IsLeastTime, NoneBy}
 use Rattle.hub_floor.specs.declared.floor.Floor.{Floor}
 use Rattle.hub_floor.specs.Floor.{hub_state, RestsOf, PartsOf, LinksOf}
-use Rattle.hub_floor.specs.Begins.{BeginsPass, IsEnded}
+use Rattle.hub_floor.specs.Begins.{IsEnded}
 use Rattle.hub_floor.proofs.FloorGives.{parts_count, links_count}
 use Rattle.hub_floor.proofs.LeastLaws.{none_is, none_in_all, some_in}
-use Rattle.hub_floor.proofs.FloorOpens.{Jumped, jumps, least_ahead}
-use Rattle.run_hub.specs.Stands.{PartsOpen, LinksOpen, IsPass, IsOver, StandsAt, Stands, WentOn}
-use Rattle.run_hub.specs.Claims.{count_in, IsFirstWaiting}
+use Rattle.hub_floor.proofs.FloorOpens.{jumps, least_ahead}
+use Rattle.run_hub.specs.Stands.{PartsOpen, LinksOpen, StandsAt, Stands, WentOn}
+use Rattle.run_hub.specs.Claims.{IsFirstWaiting}
 
 -- some more, of which none passes the test
 count_more : (test : ℕ → Bool) (at k : ℕ) → ((i : ℕ) → at ≤ i → i < at + k → test i ≡ false) → count_to test (at + k) ≡ count_to test at

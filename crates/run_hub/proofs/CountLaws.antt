@@ -1,6 +1,6 @@
 -- Requests are counted one actor after another.
 use Rattle.std.proofs.Common.{◌≡◌, ◌++◌, List, ap}
-use Rattle.std.specs.Prelude.{Option, Some}
+use Rattle.std.specs.Prelude.{Some}
 use Rattle.port_msg.specs.declared.records.Record.{Record}
 use Rattle.task_stats.specs.Tasks.{TasksView, after_records}
 use Rattle.run_gear.proofs.CountLaws.{counted_then as then_counted}

@@ -1,5 +1,5 @@
 -- Finishes: where a step is out, and what stands afterwards.
-use Rattle.std.proofs.Common.{◌≡◌, ℕ, zero, suc, ◌+◌, ◌-◌, ◌<◌, ◌≤◌, ◌⊎◌, inl, inr, List, [], ◌∷◌, ◌++◌, length, sym, ◌∙◌, ap, subst, arith, refl, add-one}
+use Rattle.std.proofs.Common.{◌≡◌, ℕ, zero, suc, ◌+◌, ◌-◌, ◌<◌, ◌≤◌, inl, inr, List, [], ◌∷◌, ◌++◌, length, sym, ◌∙◌, ap, subst, arith, refl, add-one}
 use Rattle.std.specs.Prelude.{Option, Bool, true, false, ◌&&◌, ◌==◌}
 use Rattle.bit_set.specs.Bits.{is_in}
 use Rattle.sim_base.specs.declared.phase.Phase.{Phase}
@@ -15,17 +15,16 @@ use Rattle.hub_laws.specs.declared.stage.Stage.{Stage}
 use Rattle.hub_laws.specs.declared.stage.Stage.TheVariants.{Boundary, Primary, Secondary, Over}
 use Rattle.hub_laws.specs.Events.{all_back, flipped, closed, part_finished, link_finished}
 use Rattle.hub_floor.specs.declared.floor.Floor.{Floor}
-use Rattle.hub_floor.specs.Floor.{hub_state, RestsOf, PartsOf, LinksOf}
+use Rattle.hub_floor.specs.Floor.{hub_state, PartsOf, LinksOf}
 use Rattle.sim_io.specs.Sink.{Got, GotPrefix}
 use Rattle.trace_out.specs.Names.{actors_of}
 use Rattle.trace_out.specs.Lines.{lines_of, line_count}
 use Rattle.run_gear.specs.PlanNames.{names_of}
-use Rattle.run_gear.specs.Written.{GotLines}
 use Rattle.run_gear.proofs.LineLaws.{lines_grow, some_lines, rose_later}
 use Rattle.run_hub.specs.declared.task.TaskName.{TaskName}
-use Rattle.run_hub.specs.GoesOn.{TraceView, TraceStays, TimeClosed, LinksOpened, AfterLinks, AfterParts}
+use Rattle.run_hub.specs.GoesOn.{TraceView, TraceStays, TimeClosed, AfterLinks, AfterParts}
 use Rattle.run_hub.specs.Written.{IsWritten}
-use Rattle.run_hub.specs.Stands.{PartsOpen, LinksOpen, StandsAt, Stands, WentOn}
+use Rattle.run_hub.specs.Stands.{PartsOpen, LinksOpen, StandsAt, Stands}
 use Rattle.run_hub.specs.Tasks.{PartDone, LinkDone}
 use Rattle.run_hub.specs.Finishes.{in_parts, in_links, part_is_out, link_is_out, is_out, out_in, link_gone_on, part_gone_on, close_if, flip_if, finished_in, finished, PartFinishes, LinkFinishes, GoneOn}
 use Rattle.run_hub.proofs.CountLaws.{counted_then}

@@ -1,6 +1,6 @@
 -- A claim at a boundary: the pass that opens has somebody who waits.
-use Rattle.std.proofs.Common.{◌≡◌, ℕ, ◌+◌, ◌<◌, ◌≤◌, ◌⊎◌, inl, inr, List, length, sym, ◌∙◌, ap, subst, arith, refl}
-use Rattle.std.specs.Prelude.{Option, Some, Bool, true, false, ◌&&◌, ◌||◌}
+use Rattle.std.proofs.Common.{◌≡◌, ℕ, ◌<◌, ◌⊎◌, inl, inr, List, length, sym, ◌∙◌, ap, subst, arith, refl}
+use Rattle.std.specs.Prelude.{Some, Bool, true, false, ◌&&◌, ◌||◌}
 use Rattle.std.proofs.lemmas.List.{length-map}
 use Rattle.bit_set.specs.Bits.{is_in}
 use Rattle.tick_law.specs.SerialLoop.{System, records_below}
@@ -9,9 +9,8 @@ use Rattle.model_laws.specs.NextTable.{next_at_place}
 use Rattle.model_laws.proofs.SideTimesLaws.{length-half}
 use Rattle.away_rows.proofs.SideLaws.{in_below}
 use Rattle.hub_laws.specs.HubState.{HubState}
-use Rattle.hub_laws.specs.declared.stage.Stage.{Stage}
 use Rattle.hub_laws.specs.declared.stage.Stage.TheVariants.{Boundary, Primary, Secondary, Over}
-use Rattle.hub_laws.specs.Events.{those_at, is_none, all_back, due_parts, parts_opened, flipped, opened, IsLeastTime, MayOpen}
+use Rattle.hub_laws.specs.Events.{those_at, is_none, due_parts, opened, IsLeastTime, MayOpen}
 use Rattle.hub_floor.specs.declared.floor.Floor.{Floor}
 use Rattle.hub_floor.specs.Floor.{hub_state, RestsOf, PartsOf, LinksOf}
 use Rattle.hub_floor.specs.Begins.{BeginsPass}
@@ -21,7 +20,7 @@ use Rattle.run_hub.specs.declared.claim.Claim.{Claim}
 use Rattle.run_hub.specs.declared.claim.Claim.TheVariants.{Got, Wait, Over as IsOver}
 use Rattle.run_hub.specs.declared.claim.Why.TheVariants.{Running, Paused, Held}
 use Rattle.run_hub.specs.Stands.{PartsOpen, LinksOpen, IsPass, WentOn}
-use Rattle.run_hub.specs.Claims.{AllRun, Goes, ClaimsInPass, Claims, CouldOpen}
+use Rattle.run_hub.specs.Claims.{AllRun, Goes, ClaimsInPass, Claims}
 use Rattle.run_hub.proofs.ClaimLaws.{records_open}
 
 -- somebody waits in the pass that is open

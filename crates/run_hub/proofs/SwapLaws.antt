@@ -1,17 +1,16 @@
 -- Swaps: which steps are taken back, how many wait, and who goes out.
-use Rattle.std.proofs.Common.{◌≡◌, ◌≢◌, ℕ, zero, suc, ◌+◌, ◌-◌, ◌*◌, ◌/◌, ◌%◌, ◌<◌, ◌≤◌, ◌⊎◌, inl, inr, List, [], ◌∷◌, ◌++◌, length, sym, ◌∙◌, ap, subst, arith, refl}
-use Rattle.std.specs.Prelude.{Option, Some, None, Bool, true, false, drop, min, slice_get, slice_set}
+use Rattle.std.proofs.Common.{◌≡◌, ℕ, zero, suc, ◌+◌, ◌-◌, ◌*◌, ◌<◌, ◌≤◌, ◌⊎◌, inl, inr, List, [], ◌∷◌, ◌++◌, length, sym, ◌∙◌, ap, subst, arith}
+use Rattle.std.specs.Prelude.{Option, Some, Bool, true, false, drop, min, slice_get, slice_set}
 use Rattle.std.specs.Int.{div_ceil}
 use Rattle.std.proofs.Math.Nat.{mul-le-mul_right, le-mul_of_pos_right}
 use Rattle.std.proofs.lemmas.Bool.{cases_lt}
 use Rattle.std.proofs.lemmas.Grind.{div_ceil_times}
-use Rattle.std.proofs.lemmas.List.{append-nil, append_assoc, length-append, length-set, get_or-set_same, get_or-set_other}
+use Rattle.std.proofs.lemmas.List.{length-append, length-set, get_or-set_same, get_or-set_other}
 use Rattle.bit_set.specs.Bits.{is_in}
-use Rattle.tick_law.specs.SerialLoop.{System, pick, records_below}
+use Rattle.tick_law.specs.SerialLoop.{System, pick}
 use Rattle.away_rows.proofs.SideLaws.{in_below}
 use Rattle.hub_laws.specs.HubState.{HubState}
 use Rattle.hub_laws.specs.declared.stage.Stage.{Stage}
-use Rattle.hub_laws.specs.declared.stage.Stage.TheVariants.{Primary, Secondary}
 use Rattle.hub_laws.specs.Events.{count_to, part_claimed, link_claimed, opened}
 use Rattle.hub_floor.specs.declared.floor.Floor.{Floor}
 use Rattle.hub_floor.specs.Floor.{hub_state}
@@ -24,7 +23,7 @@ use Rattle.run_hub.specs.declared.claim.Why.{Why}
 use Rattle.run_hub.specs.declared.claim.Why.TheVariants.{Running, Paused, Held}
 use Rattle.run_hub.specs.declared.swap.Swap.TheVariants.{Got as GotShare}
 use Rattle.run_hub.specs.GoesOn.{TraceView}
-use Rattle.run_hub.specs.Stands.{IsPass, StandsAt, Stands, WentOn}
+use Rattle.run_hub.specs.Stands.{IsPass, StandsAt, Stands}
 use Rattle.run_hub.specs.Finishes.{is_out}
 use Rattle.run_hub.specs.Batch.{BatchView}
 use Rattle.run_hub.specs.Claims.{count_in, Goes, OpensFor, Runs, ClaimsInPass, Claims}

@@ -1,5 +1,5 @@
 -- A run of a hub whose words change: whether it is paused, how many want to look, and whether nobody lingers.
-use Rattle.std.proofs.Common.{◌≡◌, ℕ, refl}
+use Rattle.std.proofs.Common.{ℕ, refl}
 use Rattle.std.specs.Prelude.{Bool}
 use Rattle.tick_law.specs.SerialLoop.{System}
 use Rattle.hub_laws.specs.declared.stage.Stage.{Stage}

@@ -1,5 +1,5 @@
 -- What was written stays true of a run that went on without a record.
-use Rattle.std.proofs.Common.{◌≡◌, ℕ, List, sym, ◌∙◌, ap, subst, length}
+use Rattle.std.proofs.Common.{ℕ, List, sym, ◌∙◌, ap, subst, length}
 use Rattle.std.specs.Prelude.{Option, Bool, replicate}
 use Rattle.sim_io.specs.Sink.{Got}
 use Rattle.task_stats.specs.Tasks.{no_tasks, after_records}

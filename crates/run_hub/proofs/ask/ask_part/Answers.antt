@@ -1,10 +1,9 @@
-use Rattle.std.proofs.Common.{◌≡◌, ℕ, ◌%◌, List, sym, ◌∙◌, ap, subst, arith, refl}
-use Rattle.std.specs.Prelude.{Option, Some, true}
+use Rattle.std.proofs.Common.{◌≡◌, ◌%◌, List, sym, ◌∙◌, ap, subst, arith}
+use Rattle.std.specs.Prelude.{Option, true}
 use Rattle.sim_base.specs.declared.time.Time.{Time}
 use Rattle.tick_law.specs.PlanView.{system_from}
 use Rattle.tick_law.specs.Course.{part_course, period}
 use Rattle.hub_laws.specs.Events.{asked_edge}
-use Rattle.hub_laws.specs.HubState.{HubState}
 use Rattle.hub_floor.specs.Floor.{hub_state}
 use Rattle.run_hub.specs.Stands.{Stands}
 use Rattle.run_hub.proofs.AskLaws.{asking, period_read, noted, noted_within, noted_event, told_edge, stands_asked, state_asked}

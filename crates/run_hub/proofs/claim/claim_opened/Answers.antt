@@ -1,8 +1,5 @@
-use Rattle.std.proofs.Common.{inl, inr, ap, ◌∙◌}
 use Rattle.tick_law.specs.PlanView.{system_from}
-use Rattle.hub_laws.specs.HubState.{HubState}
-use Rattle.run_hub.proofs.OpenClaims.{parts_of_pass, links_of_pass, no_boundary, no_over}
-use Rattle.run_hub.proofs.ClaimLaws.{parts_stand, links_stand}
+use Rattle.run_hub.proofs.OpenClaims.{parts_of_pass, links_of_pass}
 use Rattle.run_hub.proofs.claim.claim_opened.Goals as goal
 
 pub claim_part-requires : goal.claim_part-requires

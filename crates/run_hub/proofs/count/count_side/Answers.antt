@@ -1,6 +1,6 @@
-use Rattle.std.proofs.Common.{◌≡◌, ◌+◌, List, length, sym, ◌∙◌, ap, arith, refl}
+use Rattle.std.proofs.Common.{◌+◌, length, sym, ◌∙◌, ap, arith, refl}
 use Rattle.port_msg.specs.RecView.{RecView}
-use Rattle.task_stats.specs.Tasks.{TasksView, after_records}
+use Rattle.task_stats.specs.Tasks.{after_records}
 use Rattle.run_hub.specs.Lines.{side_records}
 use Rattle.run_hub.proofs.SideLines.{records_over, records_one}
 use Rattle.run_hub.proofs.CountLaws.{counted_then}

@@ -1,4 +1,4 @@
-use Rattle.std.proofs.Common.{rules, ◌≡◌, ◌+◌, ◌-◌, ◌<◌, ◌≤◌, length, arith}
+use Rattle.std.proofs.Common.{rules, ◌+◌, ◌-◌, ◌≤◌, length, arith}
 use Rattle.tick_law.specs.PlanView.{system_from}
 use Rattle.hub_floor.specs.Floor.{hub_state}
 use Rattle.run_hub.specs.declared.batch.TheConstants.{BATCH_ROOM}

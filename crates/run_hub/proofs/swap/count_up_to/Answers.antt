@@ -1,5 +1,4 @@
 use Rattle.std.proofs.Common.{◌≡◌, ◌+◌, ◌≤◌, sym, ◌∙◌, ap, arith, length}
-use Rattle.std.specs.Prelude.{min}
 use Rattle.bit_set.specs.Bits.{is_in}
 use Rattle.run_hub.specs.Claims.{count_in}
 use Rattle.run_hub.proofs.ClaimLaws.{count_to_over, count_one_more}

@@ -1,4 +1,4 @@
-use Rattle.std.proofs.Common.{◌+◌, ◌-◌, ◌≤◌, ◌≡◌, length}
+use Rattle.std.proofs.Common.{◌-◌, ◌≤◌, ◌≡◌, length}
 use Rattle.bit_set.specs.Bits.{is_in}
 use Rattle.hub_laws.specs.Events.{count_to}
 use Rattle.run_hub.proofs.swap.count_up_to.Given as goal

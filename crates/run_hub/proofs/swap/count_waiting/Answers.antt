@@ -1,4 +1,4 @@
-use Rattle.std.proofs.Common.{◌+◌, arith}
+use Rattle.std.proofs.Common.{arith}
 use Rattle.tick_law.specs.PlanView.{system_from}
 use Rattle.run_hub.proofs.ClaimLaws.{part_marks_few, link_marks_few}
 use Rattle.run_hub.proofs.OpenClaims.{parts_of_pass, links_of_pass}
