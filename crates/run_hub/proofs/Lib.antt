@@ -9,3 +9,5 @@ pub mod TurnLaws
 pub mod WordLaws
 pub mod AskLaws
 pub mod SwapLaws
+pub mod SeatsTaken
+pub mod RunsEnd

@@ -3,9 +3,11 @@ pub mod Tasks
 pub mod GoesOn
 pub mod Written
 pub mod Stands
+pub mod Seats
 pub mod Claims
 pub mod Finishes
 pub mod Asks
 pub mod Batch
 pub mod Swaps
 pub mod Hub
+pub mod Ending

@@ -1,16 +1,22 @@
-ghost use Rattle.std.specs.Prelude.{◌≡◌, ◌<◌, ◌≤◌, [], length, true, false};
+ghost use Rattle.std.specs.Prelude.{◌≡◌, ◌+◌, ◌<◌, ◌≤◌, [], length, replicate, is_some, None, Some, true, false};
 ghost use Rattle.sim_io.specs.Sink.{Rose};
+ghost use Rattle.task_stats.specs.Tasks.{no_tasks, after_records};
+ghost use Rattle.port_rows.specs.World.{state_of};
 ghost use Rattle.tick_law.specs.PlanView.{system_from};
-ghost use Rattle.run_gear.specs.Written.{GotLines, GotSomeLines};
+ghost use Rattle.tick_law.specs.SerialLoop.{world_at, records_below, end_below};
+ghost use Rattle.tick_law.specs.Verdict.{verdict_at};
+ghost use Rattle.run_gear.specs.Written.{GotLines, GotSomeLines, IsCut};
 ghost use Rattle.hub_laws.specs.Events.{is_over, paused_to, wanted, left_now};
 ghost use Rattle.run_hub.specs.Asks.{part_asked, edge_told};
 ghost use Rattle.run_hub.specs.Claims.{Claims};
+ghost use Rattle.run_hub.specs.Ending.{reached};
 ghost use Rattle.run_hub.specs.Finishes.{Finishes};
 ghost use Rattle.run_hub.specs.Swaps.{Swaps};
 
 use crate::ask::ask_with;
 use crate::batch::Batch;
 use crate::claim::{Claim, claim_with};
+use crate::ending::{Ending, ending_of};
 use crate::finish::{Finish, finish_with};
 use crate::home::Home;
 use crate::opening::Opening;
@@ -121,6 +127,17 @@ impl<P: Actor + Drop, N: Actor + Drop, V: Drop, K: Sink + Drop, C: Charter<P, N>
         matches!(self.floor.stage, Stage::Over)
     }
 
+    /// The boundary in picoseconds, exactly where it is above `t` or the run is over; else None.
+    pub fn reached(&self, t: Time) -> Option<Time>
+        ensures { result ≡ reached self.now.state t.0 }
+    {
+        if t.0 < self.floor.at || self.over() {
+            Some(Time(self.floor.at))
+        } else {
+            None
+        }
+    }
+
     /// How many ticks were asked for.
     pub fn asks(&self) -> u64
         ensures { result ≡ self.now.state.asks }
@@ -221,5 +238,45 @@ impl<P: Actor + Drop, N: Actor + Drop, V: Drop, K: Sink + Drop, C: Charter<P, N>
             of: _,
         } = self;
         trace.sink
+    }
+
+    /// What a hub leaves whose run is over. Where no write failed the world, the verdict, the ending time and the lines are those of
+    /// the serial loop up to the greatest time; else those up to the boundary behind the time whose line failed, with no verdict.
+    pub fn end(self) -> Ending<P, N, K>
+        requires over { is_over self.state.stage ≡ true }
+
+        ensures upto { result.upto.0 ≡ self.state.at }
+        ensures world { state_of result.world
+            ≡ world_at (system_from P.machine N.machine C.plan C.start) result.upto.0 }
+        ensures end { result.end.0
+            ≡ end_below (system_from P.machine N.machine C.plan C.start) result.upto.0 }
+        ensures stats { result.stats ≡ after_records (replicate (length C.plan.parts) no_tasks)
+            (records_below (system_from P.machine N.machine C.plan C.start) result.upto.0) }
+        ensures asks { result.asks ≡ self.state.asks }
+        ensures extra { result.extra ≡ self.state.extra }
+
+        ensures to_end { self.state.failed ≡ false → result.upto.0 ≡ C.plan.until + 1 }
+        ensures verdict { self.state.failed ≡ false → result.verdict
+            ≡ Some (verdict_at (system_from P.machine N.machine C.plan C.start) C.plan.until) }
+        ensures lines { self.state.failed ≡ false → GotLines C.plan
+            (system_from P.machine N.machine C.plan C.start) C.all result.upto.0
+            C.told (K.told result.sink) }
+
+        ensures none { self.state.failed ≡ true → result.verdict ≡ None }
+        ensures fault { self.state.failed ≡ true → IsCut C.plan
+            (system_from P.machine N.machine C.plan C.start) C.all result.upto.0
+            C.faults (K.faults result.sink) C.told (K.told result.sink) }
+        ensures never_falls { C.faults ≤ K.faults result.sink }
+        ensures telling { is_some (K.told result.sink) ≡ is_some C.told }
+    {
+        let Hub {
+            floor,
+            trace,
+            home,
+            until: _,
+            viewer: _,
+            of: _,
+        } = self;
+        ending_of::<P, N, C, K, Brand>(floor, trace, home, Blank::new(1))
     }
 }
