@@ -8,7 +8,7 @@ use Rattle.top_run.specs.declared.command.Options.{Options}
 use Rattle.top_run.specs.declared.command.Detail.{Detail}
 use Rattle.top_run.specs.declared.command.Detail.TheVariants.{Trace, Stats, Dump}
 use Rattle.top_run.specs.declared.command.Command.TheVariants as commands
-use Rattle.top_run.specs.Words.{latest, IsFile, Until, Shows, setting_words, detail_word, has_detail, with_detail, with_setting, Lead, AreSettings, IsAccepted, no_options, IsBehind, IsRing, IsOneFile, IsFileAndOptions, IsShow, HasOptions, IsRefusedFrom, IsNumberAt}
+use Rattle.top_run.specs.Words.{latest, IsFile, Until, Shows, setting_words, detail_word, has_detail, with_detail, with_setting, Lead, AreSettings, IsAccepted, no_options, IsBehind, IsRing, IsStorm, IsOneFile, IsFileAndOptions, IsShow, HasOptions, IsRefusedFrom, IsNumberAt}
 use Rattle.top_run.proofs.WordRefusals.{from_here, from_behind, from_same, drop_at}
 
 abbrev pub ring_of : ℕ → ℕ → Ring
@@ -17,6 +17,10 @@ ring_of n until = record { relays = n; until = record { 0 = until } }
 -- two words that begin with different bytes
 pub differ : {A : Type 0} (v w : List ℕ) → get_or v 0 0 ≢ get_or w 0 0 → v ≡ w → A
 differ v w ne e = absurd (ne (ap (λ l. get_or l 0 0) e))
+
+-- two words that differ at their second bytes
+pub differ_second : {A : Type 0} (v w : List ℕ) → get_or v 1 0 ≢ get_or w 1 0 → v ≡ w → A
+differ_second v w ne e = absurd (ne (ap (λ l. get_or l 1 0) e))
 
 -- nothing stands behind
 abbrev pub IsEnd : List (List ℕ) → Type 0
@@ -39,6 +43,7 @@ is_ring t (commands.Check file, e, is) = differ (codes "check") (codes "ring") (
 is_ring t (commands.Run file options, e, is) = absurd (cc)
 is_ring t (commands.Slow file options, e, is) = differ (codes "slow") (codes "ring") (λ h. omega (arith, h)) e
 is_ring t (commands.Show file at question, e, is) = differ (codes "show") (codes "ring") (λ h. omega (arith, h)) e
+is_ring t (commands.Storm agents, e, is) = differ (codes "storm") (codes "ring") (λ h. omega (arith, h)) e
 
 pub behind_ring : (words : List (List ℕ)) (k : ℕ) → IsRefusedFrom IsRing words 1 k → IsRefusedFrom (IsBehind (codes "ring")) words 1 k
 behind_ring words k r = from_same (IsBehind (codes "ring")) IsRing words 1 k ring_is is_ring r
@@ -53,6 +58,7 @@ is_check t (commands.Check file, e, is) = (file, is)
 is_check t (commands.Run file options, e, is) = differ (codes "run") (codes "check") (λ h. omega (arith, h)) e
 is_check t (commands.Slow file options, e, is) = differ (codes "slow") (codes "check") (λ h. omega (arith, h)) e
 is_check t (commands.Show file at question, e, is) = differ (codes "show") (codes "check") (λ h. omega (arith, h)) e
+is_check t (commands.Storm agents, e, is) = differ (codes "storm") (codes "check") (λ h. omega (arith, h)) e
 
 pub behind_check : (words : List (List ℕ)) (k : ℕ) → IsRefusedFrom IsOneFile words 1 k → IsRefusedFrom (IsBehind (codes "check")) words 1 k
 behind_check words k r = from_same (IsBehind (codes "check")) IsOneFile words 1 k check_is is_check r
@@ -67,6 +73,7 @@ is_run t (commands.Check file, e, is) = differ (codes "check") (codes "run") (λ
 is_run t (commands.Run file options, e, is) = (file, options, is)
 is_run t (commands.Slow file options, e, is) = differ (codes "slow") (codes "run") (λ h. omega (arith, h)) e
 is_run t (commands.Show file at question, e, is) = differ (codes "show") (codes "run") (λ h. omega (arith, h)) e
+is_run t (commands.Storm agents, e, is) = differ (codes "storm") (codes "run") (λ h. omega (arith, h)) e
 
 pub behind_run : (words : List (List ℕ)) (k : ℕ) → IsRefusedFrom IsFileAndOptions words 1 k → IsRefusedFrom (IsBehind (codes "run")) words 1 k
 behind_run words k r = from_same (IsBehind (codes "run")) IsFileAndOptions words 1 k run_is is_run r
@@ -81,6 +88,7 @@ is_slow t (commands.Check file, e, is) = differ (codes "check") (codes "slow") (
 is_slow t (commands.Run file options, e, is) = differ (codes "run") (codes "slow") (λ h. omega (arith, h)) e
 is_slow t (commands.Slow file options, e, is) = (file, options, is)
 is_slow t (commands.Show file at question, e, is) = let second : 104 ≡ 108 = ap (λ l. get_or l 1 0) e in absurd (omega (arith, second))
+is_slow t (commands.Storm agents, e, is) = differ_second (codes "storm") (codes "slow") (λ h. omega (arith, h)) e
 
 pub behind_slow : (words : List (List ℕ)) (k : ℕ) → IsRefusedFrom IsFileAndOptions words 1 k → IsRefusedFrom (IsBehind (codes "slow")) words 1 k
 behind_slow words k r = from_same (IsBehind (codes "slow")) IsFileAndOptions words 1 k slow_is is_slow r
@@ -95,9 +103,46 @@ is_show t (commands.Check file, e, is) = differ (codes "check") (codes "show") (
 is_show t (commands.Run file options, e, is) = differ (codes "run") (codes "show") (λ h. omega (arith, h)) e
 is_show t (commands.Slow file options, e, is) = let second : 108 ≡ 104 = ap (λ l. get_or l 1 0) e in absurd (omega (arith, second))
 is_show t (commands.Show file at question, e, is) = (file, at, question, is)
+is_show t (commands.Storm agents, e, is) = differ_second (codes "storm") (codes "show") (λ h. omega (arith, h)) e
 
 pub behind_show : (words : List (List ℕ)) (k : ℕ) → IsRefusedFrom IsShow words 1 k → IsRefusedFrom (IsBehind (codes "show")) words 1 k
 behind_show words k r = from_same (IsBehind (codes "show")) IsShow words 1 k show_is is_show r
+
+-- `storm`
+storm_is : (t : List (List ℕ)) → IsStorm t → IsBehind (codes "storm") t
+storm_is t (agents, is) = (commands.Storm agents, refl, is)
+
+is_storm : (t : List (List ℕ)) → IsBehind (codes "storm") t → IsStorm t
+is_storm t (commands.Ring ring, e, is) = differ (codes "ring") (codes "storm") (λ h. omega (arith, h)) e
+is_storm t (commands.Check file, e, is) = differ (codes "check") (codes "storm") (λ h. omega (arith, h)) e
+is_storm t (commands.Run file options, e, is) = differ (codes "run") (codes "storm") (λ h. omega (arith, h)) e
+is_storm t (commands.Slow file options, e, is) = differ_second (codes "slow") (codes "storm") (λ h. omega (arith, h)) e
+is_storm t (commands.Show file at question, e, is) = differ_second (codes "show") (codes "storm") (λ h. omega (arith, h)) e
+is_storm t (commands.Storm agents, e, is) = (agents, is)
+
+pub behind_storm : (words : List (List ℕ)) (k : ℕ) → IsRefusedFrom IsStorm words 1 k → IsRefusedFrom (IsBehind (codes "storm")) words 1 k
+behind_storm words k r = from_same (IsBehind (codes "storm")) IsStorm words 1 k storm_is is_storm r
+
+-- the number of a storm's agents
+pub no_agents : (words : List (List ℕ)) (k : ℕ) → k ≡ 2 → ((n : ℕ) → IsNumberAt words 1 1 252 n → ⊥) → IsRefusedFrom IsStorm words 1 k
+no_agents words k e other = from_here IsStorm words 1 k _ (1, (refl, (omega arith, omega arith))) e ended not
+  where
+    ended : IsStorm [] → 1 < length words
+    ended (agents, (is, few)) = absurd (cc)
+
+    not : (v : List ℕ) (t : List (List ℕ)) → IsStorm (v ∷ t) → slice_get words 1 ≡ Some v → ⊥
+    not v t (agents, (is, few)) at =
+        let head : v ≡ decimal agents = cc in
+        other agents (record { word = at ∙ ap (λ x. Some x) head; from = few.0; within = few.1 })
+
+pub behind_agents : (words : List (List ℕ)) (n k : ℕ) → IsNumberAt words 1 1 252 n → IsRefusedFrom IsEnd words 2 k → IsRefusedFrom IsStorm words 1 k
+behind_agents words n k number r = from_behind IsStorm IsEnd (decimal n) words 1 k number.word put off r
+  where
+    put : (t : List (List ℕ)) → IsEnd t → IsStorm (decimal n ∷ t)
+    put t is = (n, (ap (λ l. decimal n ∷ l) is, (number.from, number.within)))
+
+    off : (t : List (List ℕ)) → IsStorm (decimal n ∷ t) → IsEnd t
+    off t (agents, (is, few)) = cc
 
 -- the numbers of a ring
 pub no_relays : (words : List (List ℕ)) (k : ℕ) → k ≡ 2 → ((n : ℕ) → IsNumberAt words 1 1 256 n → ⊥) → IsRefusedFrom IsRing words 1 k

@@ -80,7 +80,7 @@ file_from_programs P Q B R f g refusals.Write is = is
 file_from_programs P Q B R f g (refusals.WriteAt d) is = is
 file_from_programs P Q B R f g refusals.OutOfMemory is = is
 
-file_from_plan : (Q : List ℕ → Type 0) (S R : Rule → Type 0) → ((rule : Rule) → S rule → R rule) → (r : Refusal) → IsFaultOfPlan S r → IsFaultOfFile Q R r
+pub file_from_plan : (Q : List ℕ → Type 0) (S R : Rule → Type 0) → ((rule : Rule) → S rule → R rule) → (r : Refusal) → IsFaultOfPlan S r → IsFaultOfFile Q R r
 file_from_plan Q S R f (refusals.Usage k) is = is
 file_from_plan Q S R f (refusals.Read file) is = absurd is
 file_from_plan Q S R f (refusals.Config fault) is = absurd is

@@ -162,6 +162,7 @@ module _ (told given : List ℕ → List ℕ → Type 0) (same : (name a b : Lis
   command_same (commands.Run file options) x y a b = job_same (run_with Sleeping options) options.until file x y a b
   command_same (commands.Slow file options) x y a b = job_same (run_with Serial options) options.until file x y a b
   command_same (commands.Show file at question) x y a b = job_same (shown question) (Some at) file x y a b
+  command_same (commands.Storm agents) x y a b = sym a ∙ b
 
 -- what is told is what was given
 pub told_own : (contents : List ℕ → Option (List ℕ)) (name a b : List ℕ) → AreTold contents name a → AreOwn contents name b → a ≡ b

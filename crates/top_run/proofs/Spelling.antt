@@ -13,10 +13,10 @@ use Rattle.top_run.specs.declared.command.Command.TheVariants as commands
 use Rattle.top_run.specs.declared.job.Job.{Job}
 use Rattle.sim_base.specs.declared.time.Time.{Time}
 use Rattle.plan_show.specs.declared.question.Question.{Question}
-use Rattle.top_run.specs.Words.{latest, Setting, Until, Shows, setting_words, detail_word, with_detail, with_setting, no_options, Lead, AreSettings, AreRing, AreShow, question_words, command_word, AreBehind, Accepts, RefusedAt}
+use Rattle.top_run.specs.Words.{latest, Setting, Until, Shows, setting_words, detail_word, with_detail, with_setting, no_options, Lead, AreSettings, AreRing, AreStorm, AreShow, question_words, command_word, AreBehind, Accepts, RefusedAt}
 use Rattle.top_run.specs.Job.{Rule, AreOwn, AreTold, Means, IsTold, IsWithin}
 use Rattle.top_run.specs.Top.{job_status, job_written, HasRun, SomeFile, SomeJob, ReadFailed, SomeReadFailed}
-use Rattle.top_run.proofs.CommandRefusals.{ring_of, differ, detail_same, not_until}
+use Rattle.top_run.proofs.CommandRefusals.{ring_of, differ, differ_second, detail_same, not_until}
 use Rattle.top_run.proofs.Questions.{question_same}
 use Rattle.top_run.proofs.ShowRefusals.{time_of}
 use Rattle.top_run.proofs.Loading.{command_same, told_own}
@@ -61,17 +61,25 @@ show_same rest f g a b p q (e, _, within) (h, _, near) =
     let at : a.0 ≡ b.0 = decimal_injective a.0 b.0 (omega (arith, within)) (omega (arith, near)) time in
     ap (λ x. commands.Show x a p) file ∙ ap (λ t. commands.Show g (time_of t) p) at ∙ ap (λ x. commands.Show g b x) (question_same p q asked)
 
+-- the same number of agents
+storm_same : (rest : List (List ℕ)) (n m : ℕ) → AreStorm n rest → AreStorm m rest → commands.Storm n ≡ commands.Storm m
+storm_same rest n m (e, a) (f, b) =
+    let word : decimal n ≡ decimal m = cc in
+    ap (λ k. commands.Storm k) (decimal_injective n m (omega (arith, a)) (omega (arith, b)) word)
+
 behind_same : (c d : Command) (rest : List (List ℕ)) → command_word c ≡ command_word d → AreBehind c rest → AreBehind d rest → c ≡ d
 behind_same (commands.Ring r) (commands.Ring q) rest e a b = ap (λ x. commands.Ring x) (ring_same rest r q a b)
 behind_same (commands.Ring r) (commands.Check g) rest e a b = differ (codes "ring") (codes "check") (λ h. omega (arith, h)) e
 behind_same (commands.Ring r) (commands.Run g p) rest e a b = absurd (cc)
 behind_same (commands.Ring r) (commands.Slow g p) rest e a b = differ (codes "ring") (codes "slow") (λ h. omega (arith, h)) e
 behind_same (commands.Ring r) (commands.Show g b q) rest e x y = differ (codes "ring") (codes "show") (λ h. omega (arith, h)) e
+behind_same (commands.Ring r) (commands.Storm m) rest e x y = differ (codes "ring") (codes "storm") (λ h. omega (arith, h)) e
 behind_same (commands.Check f) (commands.Ring q) rest e a b = differ (codes "check") (codes "ring") (λ h. omega (arith, h)) e
 behind_same (commands.Check f) (commands.Check g) rest e (a, _) (b, _) = let same : f ≡ g = cc in ap (λ x. commands.Check x) same
 behind_same (commands.Check f) (commands.Run g p) rest e a b = differ (codes "check") (codes "run") (λ h. omega (arith, h)) e
 behind_same (commands.Check f) (commands.Slow g p) rest e a b = differ (codes "check") (codes "slow") (λ h. omega (arith, h)) e
 behind_same (commands.Check f) (commands.Show g b q) rest e x y = differ (codes "check") (codes "show") (λ h. omega (arith, h)) e
+behind_same (commands.Check f) (commands.Storm m) rest e x y = differ (codes "check") (codes "storm") (λ h. omega (arith, h)) e
 behind_same (commands.Run f o) (commands.Ring q) rest e a b = absurd (cc)
 behind_same (commands.Run f o) (commands.Check g) rest e a b = differ (codes "run") (codes "check") (λ h. omega (arith, h)) e
 behind_same (commands.Run f o) (commands.Run g p) rest e (s, a, _, x) (t, b, _, y) =
@@ -81,6 +89,7 @@ behind_same (commands.Run f o) (commands.Run g p) rest e (s, a, _, x) (t, b, _, 
     ap (λ z. commands.Run z o) file ∙ ap (λ z. commands.Run g z) options
 behind_same (commands.Run f o) (commands.Slow g p) rest e a b = differ (codes "run") (codes "slow") (λ h. omega (arith, h)) e
 behind_same (commands.Run f o) (commands.Show g b q) rest e x y = differ (codes "run") (codes "show") (λ h. omega (arith, h)) e
+behind_same (commands.Run f o) (commands.Storm m) rest e x y = differ (codes "run") (codes "storm") (λ h. omega (arith, h)) e
 behind_same (commands.Slow f o) (commands.Ring q) rest e a b = differ (codes "slow") (codes "ring") (λ h. omega (arith, h)) e
 behind_same (commands.Slow f o) (commands.Check g) rest e a b = differ (codes "slow") (codes "check") (λ h. omega (arith, h)) e
 behind_same (commands.Slow f o) (commands.Run g p) rest e a b = differ (codes "slow") (codes "run") (λ h. omega (arith, h)) e
@@ -90,11 +99,19 @@ behind_same (commands.Slow f o) (commands.Slow g p) rest e (s, a, _, x) (t, b, _
     let options : o ≡ p = options_same t no_options o p (subst (λ l. AreSettings no_options o l) same x) y in
     ap (λ z. commands.Slow z o) file ∙ ap (λ z. commands.Slow g z) options
 behind_same (commands.Slow f o) (commands.Show g b q) rest e x y = let second : 108 ≡ 104 = ap (λ l. get_or l 1 0) e in absurd (omega (arith, second))
+behind_same (commands.Slow f o) (commands.Storm m) rest e x y = differ_second (codes "slow") (codes "storm") (λ h. omega (arith, h)) e
 behind_same (commands.Show f a p) (commands.Ring q) rest e x y = differ (codes "show") (codes "ring") (λ h. omega (arith, h)) e
 behind_same (commands.Show f a p) (commands.Check g) rest e x y = differ (codes "show") (codes "check") (λ h. omega (arith, h)) e
 behind_same (commands.Show f a p) (commands.Run g o) rest e x y = differ (codes "show") (codes "run") (λ h. omega (arith, h)) e
 behind_same (commands.Show f a p) (commands.Slow g o) rest e x y = let second : 104 ≡ 108 = ap (λ l. get_or l 1 0) e in absurd (omega (arith, second))
 behind_same (commands.Show f a p) (commands.Show g b q) rest e x y = show_same rest f g a b p q x y
+behind_same (commands.Show f a p) (commands.Storm m) rest e x y = differ_second (codes "show") (codes "storm") (λ h. omega (arith, h)) e
+behind_same (commands.Storm n) (commands.Ring q) rest e x y = differ (codes "storm") (codes "ring") (λ h. omega (arith, h)) e
+behind_same (commands.Storm n) (commands.Check g) rest e x y = differ (codes "storm") (codes "check") (λ h. omega (arith, h)) e
+behind_same (commands.Storm n) (commands.Run g p) rest e x y = differ (codes "storm") (codes "run") (λ h. omega (arith, h)) e
+behind_same (commands.Storm n) (commands.Slow g p) rest e x y = differ_second (codes "storm") (codes "slow") (λ h. omega (arith, h)) e
+behind_same (commands.Storm n) (commands.Show g b q) rest e x y = differ_second (codes "storm") (codes "show") (λ h. omega (arith, h)) e
+behind_same (commands.Storm n) (commands.Storm m) rest e x y = storm_same rest n m x y
 
 pub accepted_same : (words : List (List ℕ)) (c d : Command) → Accepts words c → Accepts words d → c ≡ d
 accepted_same words c d (s, e, a) (t, f, b) =
@@ -159,6 +176,7 @@ accepted_within words (commands.Check f) a = tt
 accepted_within words (commands.Run f o) (rest, e, (more, g, file, (ss, h, lead))) = within_from ss no_options o lead tt
 accepted_within words (commands.Slow f o) (rest, e, (more, g, file, (ss, h, lead))) = within_from ss no_options o lead tt
 accepted_within words (commands.Show f at q) (rest, e, (g, file, within)) = within
+accepted_within words (commands.Storm n) (rest, e, (f, few)) = few
 
 -- accepted words are not refused
 pub refused_none : {A : Type 0} (words : List (List ℕ)) (k : ℕ) (c : Command) → Accepts words c → RefusedAt words k → A

@@ -14,11 +14,12 @@ use Rattle.plan_rules.specs.First.{first_broken}
 use Rattle.plan_check.specs.Programs.{first_unmapped}
 use Rattle.plan_check.specs.Plan.{plan_of}
 use Rattle.ring_plan.specs.Ring.{ring_plan}
+use Rattle.storm_gen.specs.Storm.{storm_plan}
 use Rattle.top_run.specs.declared.program_breach.ProgramBreach.{ProgramBreach}
 use Rattle.top_run.specs.declared.program_breach.ProgramRule.TheVariants.{Format, SegmentUnmapped}
 use Rattle.top_run.specs.declared.refusal.Refusal.{Refusal}
 use Rattle.top_run.specs.declared.refusal.Refusal.TheVariants as refusals
-use Rattle.top_run.specs.Words.{latest, InRange, no_options}
+use Rattle.top_run.specs.Words.{latest, InRange, IsFew, no_options}
 use Rattle.world_query.specs.declared.query.Query.{Query}
 use Rattle.plan_show.specs.declared.question.Question.{Question}
 use Rattle.plan_show.specs.declared.question.Unknown.{Unknown}
@@ -106,24 +107,35 @@ answered (Err unknown) machine = Err (Name unknown)
 abbrev pub shown : Question → Machine → Result Job Rule
 shown question machine = answered (query_in machine.plan question) machine
 
+-- or it is run, and a summary tells of the storm of so many agents that it is
+abbrev pub stormed : ℕ → Machine → Result Job Rule
+stormed agents machine = Ok (record { machine = machine; work = works.Storm agents })
+
 -- and this is done where there is a machine
 abbrev pub done_with : (Machine → Result Job Rule) → Result Machine Rule → Result Job Rule
 done_with work (Ok machine) = work machine
 done_with work (Err rule) = Err rule
+
+-- what a storm means: the machine of its plan, as the same text in a file would mean it, and that a summary tells of it
+abbrev pub storm_meaning : ℕ → Result Job Rule
+storm_meaning agents = done_with (stormed agents) (machine_of_plan [] (storm_plan agents))
 
 -- a query is one about the machine
 abbrev pub IsWorkOf : Machine → Work → Type 0
 IsWorkOf machine (works.Run engine options) = Unit {0}
 IsWorkOf machine works.Check = Unit {0}
 IsWorkOf machine (works.Show query) = IsQueryOf (legend_of machine.plan) query
+IsWorkOf machine (works.Storm agents) = Unit {0}
 
--- the budget that a command gives in place of its file's is one that a file may have
+-- the budget that a command gives in place of its file's is one that a file may have, and the numbers of a ring and a storm are in
+-- their ranges
 abbrev pub IsWithin : Command → Type 0
 IsWithin (commands.Ring ring) = InRange ring
 IsWithin (commands.Check file) = Unit {0}
 IsWithin (commands.Run file options) = IfSome options.until (λ t. t.0 ≤ latest)
 IsWithin (commands.Slow file options) = IfSome options.until (λ t. t.0 ≤ latest)
 IsWithin (commands.Show file at question) = at.0 ≤ latest
+IsWithin (commands.Storm agents) = IsFew agents
 
 -- what files mean that give bytes by their names
 module _ (gives : List ℕ → List ℕ → Type 0) where
@@ -164,13 +176,14 @@ module _ (gives : List ℕ → List ℕ → Type 0) where
   abbrev pub MeansJob : (Machine → Result Job Rule) → Option Time → List ℕ → Result Job Rule → Type 0
   MeansJob work until file meaning = (made : Result Machine Rule) × MeansFile until file made × (done_with work made ≡ meaning)
 
-  -- what a command means; a ring has no file, and the time of `show` is the budget
+  -- what a command means; a ring and a storm have no file, and the time of `show` is the budget
   abbrev pub MeansCommand : Command → Result Job Rule → Type 0
   MeansCommand (commands.Ring ring) meaning = run_with Sleeping no_options (record { plan = ring_plan ring.relays ring.until.0; programs = 0 }) ≡ meaning
   MeansCommand (commands.Check file) meaning = MeansJob checked None file meaning
   MeansCommand (commands.Run file options) meaning = MeansJob (run_with Sleeping options) options.until file meaning
   MeansCommand (commands.Slow file options) meaning = MeansJob (run_with Serial options) options.until file meaning
   MeansCommand (commands.Show file at question) meaning = MeansJob (shown question) (Some at) file meaning
+  MeansCommand (commands.Storm agents) meaning = storm_meaning agents ≡ meaning
 
   -- the name of a program's file that is read
   abbrev pub IsProgramName : List ProgramTable → List ℕ → Type 0
@@ -192,6 +205,7 @@ module _ (gives : List ℕ → List ℕ → Type 0) where
   IsNameOf (commands.Run file options) name = IsNameOfFile file name
   IsNameOf (commands.Slow file options) name = IsNameOfFile file name
   IsNameOf (commands.Show file at question) name = IsNameOfFile file name
+  IsNameOf (commands.Storm agents) name = ⊥
 
 -- it means this for the bytes that were read, which are those of the files where the files tell them
 abbrev pub Means : (List ℕ → Option (List ℕ)) → Command → Result Job Rule → Type 0
@@ -204,6 +218,7 @@ IsTold contents command meaning = MeansCommand (AreTold contents) command meanin
 -- a command that has no file
 abbrev pub IsFileless : Command → Type 0
 IsFileless (commands.Ring ring) = Unit {0}
+IsFileless (commands.Storm agents) = Unit {0}
 IsFileless command = ⊥
 
 -- what a refusal says where the bytes of a file are read: a rule of configurations is broken, or no memory was found

@@ -2,3 +2,4 @@ pub mod Words
 pub mod Top
 pub mod Refusals
 pub mod Job
+pub mod Summary

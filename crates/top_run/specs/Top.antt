@@ -2,7 +2,7 @@
 use Rattle.std.specs.Prelude.{◌≡◌, ℕ, ◌+◌, ◌≤◌, List, [], ◌++◌, length, replicate, codes, Bool, true, false, Option, Some, None, ◌⊎◌, Ok, Err}
 use Rattle.std.specs.Fmt.{decimal}
 use Rattle.tick_law.specs.PlanView.{PlanView, system_of}
-use Rattle.tick_law.specs.SerialLoop.{System, world_at, records_below, edges_below}
+use Rattle.tick_law.specs.SerialLoop.{System, WorldState, world_at, records_below, edges_below}
 use Rattle.tick_law.specs.Verdict.{verdict_at, end_at, awake_below}
 use Rattle.tick_law.specs.declared.verdict.Verdict.{Verdict}
 use Rattle.tick_law.specs.declared.verdict.Verdict.TheVariants.{Finished, Stuck, Cut}
@@ -27,6 +27,7 @@ use Rattle.top_run.specs.declared.run.Engine.TheVariants.{Sleeping, Serial}
 use Rattle.top_run.specs.declared.refusal.Refusal.{Refusal}
 use Rattle.top_run.specs.declared.refusal.Refusal.TheVariants as refusals
 use Rattle.top_run.specs.Words.{Accepts, RefusedAt}
+use Rattle.top_run.specs.Summary.{summary_of}
 use Rattle.plan_show.specs.declared.question.Unknown.{Unknown}
 use Rattle.world_query.specs.declared.query.Query.{Query}
 use Rattle.world_query.specs.Legend.{legend_of}
@@ -85,35 +86,43 @@ check_line machine = check_numbers (length machine.plan.parts) (length machine.p
 abbrev pub shown_line : Query → PlanView Part LinkKind → List ℕ
 shown_line query plan = body_of (legend_of plan) query (world_at (loop_of plan) (plan.until + 1)) (plan.until + 1) ++ line_feed
 
+-- the summary of a storm of so many agents: of the world of the serial loop's run behind the last time, and of its end
+abbrev pub storm_summary : ℕ → PlanView Part LinkKind → List ℕ
+storm_summary agents plan = (λ (w : WorldState Part LinkKind). summary_of agents (plan_end plan) w.parts w.links) (world_at (loop_of plan) (plan.until + 1))
+
 -- the status of a verdict
 abbrev pub status_of : Verdict → ℕ
 status_of Finished = 0
 status_of Stuck = 10
 status_of Cut = 11
 
--- the status of what is done with a plan: that of its run's verdict, where its report is asked for
+-- the status of what is done with a plan: that of its run's verdict, where its report or its summary is asked for
 abbrev pub status_by : Work → PlanView Part LinkKind → ℕ
 status_by (works.Run engine options) plan = status_of (plan_verdict plan)
 status_by works.Check plan = 0
 status_by (works.Show query) plan = 0
+status_by (works.Storm agents) plan = status_of (plan_verdict plan)
 
 -- the lines of its run below a boundary, where they are asked for
 abbrev pub lines_by : Work → PlanView Part LinkKind → ℕ → List ℕ
 lines_by (works.Run engine options) plan d = plan_lines options.trace plan d
 lines_by works.Check plan d = []
 lines_by (works.Show query) plan d = []
+lines_by (works.Storm agents) plan d = []
 
--- what is written behind them: the report, the line of a check, or the answer to a query
+-- what is written behind them: the report, the line of a check, the answer to a query, or the summary of a storm
 abbrev pub report_by : Work → Machine → List ℕ
 report_by (works.Run engine options) machine = plan_report options machine.plan
 report_by works.Check machine = check_line machine
 report_by (works.Show query) machine = shown_line query machine.plan
+report_by (works.Storm agents) machine = storm_summary agents machine.plan
 
 -- the steps that are charged
 abbrev pub steps_by : Work → PlanView Part LinkKind → ℕ
 steps_by (works.Run engine options) plan = plan_steps engine plan (plan.until + 1)
 steps_by works.Check plan = 0
 steps_by (works.Show query) plan = plan_steps Sleeping plan (plan.until + 1)
+steps_by (works.Storm agents) plan = plan_steps Sleeping plan (plan.until + 1)
 
 -- the status of a job
 abbrev pub job_status : Job → ℕ
@@ -158,11 +167,12 @@ pub record HasRun (contents : List ℕ → Option (List ℕ)) (words : List (Lis
 abbrev pub PlanFailed : Bool → PlanView Part LinkKind → Option (List ℕ) → Option (List ℕ) → ℕ → Type 0
 PlanFailed all plan old new d = (d ≤ plan.until + 1) × GotSomeLines plan (loop_of plan) all d old new
 
--- the same of what is done with a plan; a check and an answer have no lines
+-- the same of what is done with a plan; a check, an answer and a storm have no lines
 abbrev pub FailedBy : Work → PlanView Part LinkKind → Option (List ℕ) → Option (List ℕ) → ℕ → Type 0
 FailedBy (works.Run engine options) plan old new d = PlanFailed options.trace plan old new d
 FailedBy works.Check plan old new d = ⊥
 FailedBy (works.Show query) plan old new d = ⊥
+FailedBy (works.Storm agents) plan old new d = ⊥
 
 -- and of a job
 abbrev pub FailedAt : Job → Option (List ℕ) → Option (List ℕ) → ℕ → Type 0

@@ -27,6 +27,10 @@ latest = 500000000000
 abbrev pub InRange : Ring → Type 0
 InRange ring = (1 ≤ ring.relays) × (ring.relays ≤ 256) × (ring.until.0 ≤ latest)
 
+-- the number of a storm's agents is in its range
+abbrev pub IsFew : ℕ → Type 0
+IsFew agents = (1 ≤ agents) × (agents ≤ 252)
+
 -- a word that names a file has a first byte, which is no `-`
 abbrev pub IsFile : List ℕ → Type 0
 IsFile name = (first : ℕ) × (slice_get name 0 ≡ Some first) × (first ≢ 45)
@@ -94,6 +98,10 @@ no_options = record { until = None; trace = false; stats = false; dump = false }
 abbrev pub AreRing : Ring → List (List ℕ) → Type 0
 AreRing ring words = (words ≡ decimal ring.relays ∷ decimal ring.until.0 ∷ []) × InRange ring
 
+-- the number of `storm N`
+abbrev pub AreStorm : ℕ → List (List ℕ) → Type 0
+AreStorm agents words = (words ≡ decimal agents ∷ []) × IsFew agents
+
 -- a file and nothing behind it
 abbrev pub AreFile : List ℕ → List (List ℕ) → Type 0
 AreFile file words = (words ≡ file ∷ []) × IsFile file
@@ -136,15 +144,17 @@ command_word (commands.Check file) = codes "check"
 command_word (commands.Run file options) = codes "run"
 command_word (commands.Slow file options) = codes "slow"
 command_word (commands.Show file at question) = codes "show"
+command_word (commands.Storm agents) = codes "storm"
 
 -- and the words behind it: `ring N UNTIL`, `check FILE`, `run FILE` and options, `slow FILE` and options, `show FILE --at T` and a
--- question
+-- question, `storm N`
 abbrev pub AreBehind : Command → List (List ℕ) → Type 0
 AreBehind (commands.Ring ring) = AreRing ring
 AreBehind (commands.Check file) = AreFile file
 AreBehind (commands.Run file options) = AreFileAndOptions file options
 AreBehind (commands.Slow file options) = AreFileAndOptions file options
 AreBehind (commands.Show file at question) = AreShow file at question
+AreBehind (commands.Storm agents) = AreStorm agents
 
 -- the words are those of a command
 abbrev pub Accepts : List (List ℕ) → Command → Type 0
@@ -183,6 +193,9 @@ IsBehind word words = (command : Command) × (command_word command ≡ word) × 
 
 abbrev pub IsRing : List (List ℕ) → Type 0
 IsRing words = (ring : Ring) × AreRing ring words
+
+abbrev pub IsStorm : List (List ℕ) → Type 0
+IsStorm words = (agents : ℕ) × AreStorm agents words
 
 abbrev pub IsOneFile : List (List ℕ) → Type 0
 IsOneFile words = (file : List ℕ) × AreFile file words

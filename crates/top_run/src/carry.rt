@@ -3,13 +3,14 @@ ghost use Rattle.world_query.specs.Legend.{legend_of, IsQueryOf};
 ghost use Rattle.sim_io.specs.Sink.{Rose, Got, GotPrefix};
 ghost use Rattle.top_run.specs.declared.run.Engine.TheVariants.{Sleeping};
 ghost use Rattle.top_run.specs.Job.{IsWorkOf};
-ghost use Rattle.top_run.specs.Top.{check_line, shown_line, plan_steps, job_status, all_lines, job_written, job_steps, Broke, FailedAt, FailedBehind, IsFaultOfJob};
+ghost use Rattle.top_run.specs.Top.{check_line, shown_line, storm_summary, status_of, plan_verdict, plan_steps, job_status, all_lines, job_written, job_steps, Broke, FailedAt, FailedBehind, IsFaultOfJob};
 
 use crate::job::{Job, Work};
 use crate::machine::Machine;
 use crate::refusal::Refusal;
 use crate::run::show_run;
 use crate::status::Status;
+use crate::storm::run_storm;
 use itoa::Buffer;
 use part_kind::{LinkKind, Part};
 use plan_show::show_plan;
@@ -104,7 +105,31 @@ fn show<K: Sink, L: Ledger>(
     write_report(out, &line)
 }
 
-/// Does a job: runs its machine and writes the report or the answer to a query, or else writes the line of a check.
+/// Runs the plan of a storm of so many agents, and writes its summary.
+fn storm<K: Sink, L: Ledger>(
+    alloc: Global,
+    agents: u32,
+    plan: Plan<Part, LinkKind>,
+    out: &mut K,
+    steps: &mut Steps<L>,
+) -> Result<Status, Refusal>
+    ensures status { IfOk result (λ status. status.0 ≡ status_of (plan_verdict plan)) }
+    ensures ok { OnOk result
+        (Got (K.told out.old) (K.told out.new) (storm_summary agents plan)) }
+    ensures steps { OnOk result (steps.new ≡ steps.old
+        + plan_steps Sleeping plan (plan.until + 1)) }
+    ensures fault { IfErr result (IsFaultOfJob
+        (Rose (K.faults out.old) (K.faults out.new)
+        × Broke [] (storm_summary agents plan) (K.told out.old) (K.told out.new))
+        (λ _. ⊥) (out.new ≡ out.old)) }
+{
+    let stormed = run_storm(alloc, agents, plan, steps)?;
+    write_report(out, stormed.summary.as_slice())?;
+    Ok(Status::of(stormed.verdict))
+}
+
+/// Does a job: runs its machine and writes the report, the answer to a query or the summary of a storm, or else writes the line of
+/// a check.
 pub fn carry_out<K: Sink, L: Ledger>(
     alloc: Global,
     job: Job,
@@ -138,5 +163,6 @@ pub fn carry_out<K: Sink, L: Ledger>(
             show(alloc, job.machine.plan, &query, out, steps)?;
             Ok(Status(0))
         }
+        Work::Storm(agents) => storm(alloc, agents, job.machine.plan, out, steps),
     }
 }

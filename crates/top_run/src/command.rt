@@ -129,4 +129,6 @@ pub enum Command {
     Slow(FileName, Options),
     /// The answer to a question about a file's machine at the boundary behind a time, which is at most 500,000,000,000 ps.
     Show(FileName, Time, Question),
+    /// The summary of a storm of 1 to 252 agents.
+    Storm(u32),
 }

@@ -3,7 +3,7 @@ ghost use Rattle.sim_io.specs.Sink.{Rose};
 ghost use Rattle.sim_config.specs.Meaning.{config_of};
 ghost use Rattle.world_query.specs.Legend.{legend_of, IsQueryOf};
 ghost use Rattle.plan_show.specs.Question.{query_in};
-ghost use Rattle.top_run.specs.Words.{latest};
+ghost use Rattle.top_run.specs.Words.{latest, IsFew};
 ghost use Rattle.top_run.specs.Job as spec;
 ghost use Rattle.top_run.specs.Top.{ReadFailed, IsFaultOfFile};
 
@@ -23,6 +23,7 @@ use sim_base::Time;
 use sim_config::{ConfigFault, ConfigRule, LONGEST_CONFIG, PlanText, TableNo, read_config};
 use sim_io::{FileFault, Files};
 use std::alloc::Global;
+use storm_gen::storm_plan;
 use tick_law::Plan;
 use world_query::{Directory, Query};
 
@@ -35,6 +36,8 @@ pub enum Work {
     Check,
     /// It is run, and a query about its world at the boundary behind its greatest time is answered.
     Show(Query),
+    /// It is run as the storm of so many agents that it is, and its summary is written.
+    Storm(u32),
 }
 
 /// A machine, and what is done with it.
@@ -239,6 +242,23 @@ fn show_job<F: Files>(
     })
 }
 
+/// The job of a storm of so many agents, whose machine is that of its plan.
+fn storm_job(alloc: Global, agents: u32) -> Result<Job, Refusal>
+    requires few { IsFew agents }
+
+    ensures job { IfOk result (λ job. spec.storm_meaning agents ≡ Ok job) }
+    ensures within { IfOk result (λ job. spec.IsWorkOf job.machine job.work) }
+    ensures fault { IfErr result (spec.IsFaultOfPlan
+        (λ rule. spec.storm_meaning agents ≡ Err rule)) }
+{
+    let text = storm_plan(alloc, agents)?;
+    let machine = machine_of_text(alloc, &text, &[])?;
+    Ok(Job {
+        machine,
+        work: Work::Storm(agents),
+    })
+}
+
 /// The job of a command: its file is read, then the rules of configurations are tried, then the programs that the file names are
 /// read, then the rules of plans are tried, then the names of a question are looked up.
 pub fn read_job<F: Files>(alloc: Global, command: &Command, files: &mut F) -> Result<Job, Refusal>
@@ -270,5 +290,6 @@ pub fn read_job<F: Files>(alloc: Global, command: &Command, files: &mut F) -> Re
         Command::Run(file, options) => run_job(alloc, files, file, Engine::Sleeping, *options),
         Command::Slow(file, options) => run_job(alloc, files, file, Engine::Serial, *options),
         Command::Show(file, at, question) => show_job(alloc, files, file, *at, question),
+        Command::Storm(agents) => storm_job(alloc, *agents),
     }
 }

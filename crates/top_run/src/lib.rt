@@ -5,11 +5,14 @@ mod carry;
 mod command;
 mod job;
 mod machine;
+mod nowhere;
 mod program_breach;
 mod programs;
 mod refusal;
 mod run;
 mod status;
+mod storm;
+mod summary;
 mod top;
 mod words;
 

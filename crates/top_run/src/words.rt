@@ -2,8 +2,8 @@ ghost use Rattle.std.specs.Prelude.{◌≡◌, ◌≢◌, ℕ, ◌+◌, ◌≤�
 ghost use Rattle.std.specs.Fmt.{decimal};
 ghost use Rattle.plan_show.specs.declared.question.Question.{Question};
 ghost use Rattle.top_run.specs.declared.command.Detail.{Detail};
-ghost use Rattle.top_run.specs.Words.{spelled, IsFile, AreRing, AreFile, AreFileAndOptions, AreSettings, AreShow, Accepts, detail_word, has_detail};
-ghost use Rattle.top_run.specs.Words.{question_word, question_names, question_words, IsRing, IsOneFile, IsFileAndOptions, HasOptions, IsShow, IsQuestion};
+ghost use Rattle.top_run.specs.Words.{spelled, IsFile, AreRing, AreStorm, AreFile, AreFileAndOptions, AreSettings, AreShow, Accepts, detail_word, has_detail};
+ghost use Rattle.top_run.specs.Words.{question_word, question_names, question_words, IsRing, IsStorm, IsOneFile, IsFileAndOptions, HasOptions, IsShow, IsQuestion};
 ghost use Rattle.top_run.specs.Words.{RefusedAt, IsRefusedFrom, IsNumberAt, IsUsage};
 
 use crate::command::{Command, Detail, FileName, Options, Ring};
@@ -11,6 +11,7 @@ use crate::refusal::Refusal;
 use plan_show::Question;
 use sim_base::{Body, OutOfMemory, Time};
 use std::alloc::Global;
+use storm_gen::MOST_AGENTS;
 
 /// The greatest time that a word may ask for, in picoseconds.
 const LATEST: u64 = 500_000_000_000;
@@ -157,6 +158,18 @@ fn read_ring(alloc: Global, words: &[String]) -> Result<Ring, Refusal>
         relays: relays as u32,
         until: Time(until),
     })
+}
+
+/// The number of agents of the storm that the words behind the first ask for.
+fn read_storm(alloc: Global, words: &[String]) -> Result<u32, Refusal>
+    requires some { 0 < length words.now }
+
+    ensures accepted { IfOk result (λ agents. AreStorm agents (drop 1 (spelled words.now))) }
+    ensures refused { IfErr result (IsUsage (IsRefusedFrom IsStorm (spelled words.now) 1)) }
+{
+    let agents = need_number(alloc, words, 1, 1, u64::from(MOST_AGENTS))?;
+    need_end(words, 2)?;
+    Ok(agents as u32)
 }
 
 /// The one file that the words behind the first name.
@@ -414,6 +427,9 @@ pub fn read_words(alloc: Global, words: &[String]) -> Result<Command, Refusal>
     if is_word(words, 0, b"show") {
         let FileShow { file, at, question } = read_show(alloc, words)?;
         return Ok(Command::Show(file, at, question));
+    }
+    if is_word(words, 0, b"storm") {
+        return Ok(Command::Storm(read_storm(alloc, words)?));
     }
     Err(Refusal::Usage(1))
 }

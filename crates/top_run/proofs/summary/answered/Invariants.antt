@@ -1,0 +1,7 @@
+use Rattle.std.proofs.Common.{◌≡◌, ◌*◌, ◌≤◌, take}
+use Rattle.std.specs.Prelude.{sum_by}
+use Rattle.top_run.specs.Summary.{answered_by}
+use Rattle.top_run.proofs.summary.answered.Given as goal
+
+abbrev pub invariant-loop-part : goal.invariant-loop-part
+invariant-loop-part l = (l.total ≡ sum_by answered_by (take l.part-index l.parts)) × (l.total ≤ 4294967296 * l.part-index)
