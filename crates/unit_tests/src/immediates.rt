@@ -12,7 +12,7 @@ fn an_immediate_is_tried_when_the_program_runs(rt: HostRuntime) {
     ];
     for (imm, word) in rows {
         let inst = Inst::of(Op::Addi, 1, 0, 0, imm);
-        assert_eq!(rt; inst.map(encode), word, "{imm:#x}");
+        assert_eq!(rt; inst.map(|inst| encode(inst)), word, "{imm:#x}");
     }
     assert_eq!(rt; Inst::of(Op::Addi, 32, 0, 0, 0), None);
     assert_eq!(rt; Inst::of(Op::Addi, 1, 0, 3, 0), None);
